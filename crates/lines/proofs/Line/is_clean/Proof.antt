@@ -1,0 +1,65 @@
+use mathlib.Core.Path.{_≡_, refl, ap, _∙_}
+use mathlib.Core.Bool.{Bool}
+use Prim.Native.Nat.{_≤_, _-_}
+use native.Mathlib.Omega.{arith}
+use borrow.Author.Needs.{needs}
+use lib.ListN.{length, getD}
+use lib.Dec.{eqb, ltb}
+use mathlib.Core.Bool.{_&&_, _||_}
+use Rattle.lines.specs.Logic.{allBelow}
+use Rattle.lines.specs.Lines.{cleanb}
+use Rattle.lines.proofs.Logic.{all-more}
+use Rattle.lines.proofs.Line.is_clean.Statement.{statement}
+use Rattle.lines.proofs.Line.is_clean.Tie as tie
+
+abbrev Inv-loop : tie.InvT-loop
+Inv-loop ids len clean₀ i₀ clean i = (i ≤ 32) × (length ids ≡ 32) × (clean ≡ allBelow i (λ k. ltb k len || eqb (getD ids k 0) 0))
+
+abbrev μ-loop : tie.MeasureT-loop
+μ-loop ids len clean₀ i₀ clean i = 32 - i
+
+cast-len : tie.Need-cast-len Inv-loop μ-loop
+cast-len c = search needs
+
+loop-holds : tie.Need-loop-holds Inv-loop μ-loop
+unfolding allBelow
+loop-holds c =
+    let e : length (c .before .before .args .self .ids) ≡ 32 = search needs in
+    (omega arith, e, refl)
+
+array-read-clean : tie.Need-array-read-clean Inv-loop μ-loop
+array-read-clean c = search needs
+
+add-i : tie.Need-add-i Inv-loop μ-loop
+add-i c = search needs
+
+loop-less : tie.Need-loop-less Inv-loop μ-loop
+loop-less c = search needs
+
+loop-again : tie.Need-loop-again Inv-loop μ-loop
+loop-again c =
+    let l = c .before .loop in
+    let a = c .before .before .before .before .args in
+    (omega arith, l .inv .1, ap (λ (b : Bool). b && (ltb (l .i) (a .self .len) || eqb (getD (a .self .ids) (l .i) 0) 0)) (l .inv .2) ∙ all-more (λ i. ltb i (a .self .len) || eqb (getD (a .self .ids) i 0) 0) (l .i))
+
+returns : tie.Need-returns Inv-loop μ-loop
+unfolding cleanb
+returns c =
+    let l = c .before .loop in
+    let a = c .before .before .before .before .args in
+    let e : l .i ≡ 32 = omega arith in
+    rw (l .inv .2, e)
+
+pub is-clean-spec : {M : Type 1} → statement M
+is-clean-spec =
+    tie.close
+    (tie.spec
+    Inv-loop
+    μ-loop
+    cast-len
+    loop-holds
+    array-read-clean
+    add-i
+    loop-less
+    loop-again
+    returns)

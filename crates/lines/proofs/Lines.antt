@@ -1,0 +1,188 @@
+-- Laws of lines: what stands in a line that was made from a list.
+use mathlib.Core.Path.{_≡_, refl, sym, ap, _∙_, ap₂}
+use mathlib.Core.List.{List, [], _∷_, _++_, append-assoc}
+use mathlib.Core.Bool.{Bool, true, false, _&&_, _||_}
+use Prim.Native.Nat.{ℕ, zero, suc, _+_, _-_, _≤_, _<_, min}
+use native.Mathlib.Nat.{not-suc-le-zero, le-of-suc-le-suc}
+use native.Mathlib.Omega.{arith}
+use native.Mathlib.Numerals.{add-one}
+use lib.ListN.{length, take, drop, getD, set, length-append, length-take, List·getD-eq-default}
+use lib.Dec.{eqb, ltb, leb}
+use lib.Seq.{take-suc, take-all, take-append-le, take-nil, getD-take, drop-cons, drop-length, length-take-le}
+use borrow.Author.Tests.{eqb-true, eq-eqb, lt-ltb, leb-true, le-leb, ltb-true, ltb-false}
+use Rattle.lines.specs.declared.Line.{Line}
+use Rattle.lines.specs.Logic.{allBelow}
+use Rattle.lines.specs.Lists.{without}
+use Rattle.lines.specs.Lines.{members, pad, lineOf, cleanb}
+use Rattle.lines.proofs.Logic.{by-test, and-left, and-right, and-in, or-left, or-right, or-rest, all-at, all-in}
+use Rattle.lines.proofs.Lists.{without-keep, without-skip}
+
+-- ---- slots
+-- what was put in stands at the front
+pub take-pad : (n : ℕ) (xs : List ℕ) → take (length (take n xs)) (pad n xs) ≡ take n xs
+unfolding pad
+take-pad zero xs = refl
+take-pad (suc n) [] = refl
+take-pad (suc n) (x ∷ xs) = ap {B = List ℕ} (λ r. x ∷ r) (take-pad n xs)
+
+pub pad-take : (n : ℕ) (xs : List ℕ) → pad n (take n xs) ≡ pad n xs
+unfolding pad
+pad-take zero xs = refl
+pad-take (suc n) [] = refl
+pad-take (suc n) (x ∷ xs) = ap {B = List ℕ} (λ r. x ∷ r) (pad-take n xs)
+
+-- a store into the first free slot
+set-pad : (n : ℕ) (xs : List ℕ) (t : ℕ) → length xs < n → set (pad n xs) (length xs) t ≡ pad n (xs ++ (t ∷ []))
+unfolding pad
+set-pad zero xs t h = absurd (not-suc-le-zero h)
+set-pad (suc n) [] t h = refl
+set-pad (suc n) (x ∷ xs) t h = ap {B = List ℕ} (λ r. x ∷ r) (set-pad n xs t (le-of-suc-le-suc h))
+
+-- only the first n count, also where more is added
+take-more : (n : ℕ) (xs ys : List ℕ) → take n (take n xs ++ ys) ≡ take n (xs ++ ys)
+take-more zero xs ys = refl
+take-more (suc n) [] ys = refl
+take-more (suc n) (x ∷ xs) ys = ap {B = List ℕ} (λ r. x ∷ r) (take-more n xs ys)
+
+-- slots that are zero behind the first k
+pad-zeros : (n k : ℕ) (xs : List ℕ) → length xs ≡ n → ((i : ℕ) → k ≤ i → i < n → getD xs i 0 ≡ 0) → xs ≡ pad n (take k xs)
+unfolding pad
+pad-zeros zero k [] e h = refl
+pad-zeros zero k (x ∷ xs) e h = absurd (let z : suc (length xs) ≡ 0 = e in omega arith)
+pad-zeros (suc n) k [] e h = absurd (let z : 0 ≡ suc n = e in omega arith)
+pad-zeros (suc n) zero (x ∷ xs) e h =
+    let r = pad-zeros n zero xs (let z : suc (length xs) ≡ suc n = e in omega arith) (λ i l g. h (suc i) (omega arith) (omega (arith, g))) in
+    let z : x ≡ 0 = h 0 (omega arith) (omega arith) in
+    λ j. z j ∷ r j
+pad-zeros (suc n) (suc k) (x ∷ xs) e h =
+    ap {B = List ℕ} (λ r. x ∷ r)
+    (pad-zeros n k xs (let z : suc (length xs) ≡ suc n = e in omega arith) (λ i l g. h (suc i) (omega (arith, l)) (omega (arith, g))))
+
+zeros-pad : (n : ℕ) (xs : List ℕ) (i : ℕ) → length (take n xs) ≤ i → getD (pad n xs) i 0 ≡ 0
+unfolding pad
+zeros-pad zero xs i h = refl
+zeros-pad (suc n) [] zero h = refl
+zeros-pad (suc n) [] (suc i) h = zeros-pad n [] i (let z = ap length (take-nil {A = ℕ} n) in omega (arith, z))
+zeros-pad (suc n) (x ∷ xs) zero h = absurd (let z : suc (length (take n xs)) ≤ 0 = h in omega arith)
+zeros-pad (suc n) (x ∷ xs) (suc i) h = zeros-pad n xs i (let z : suc (length (take n xs)) ≤ suc i = h in omega arith)
+
+-- ---- lines
+-- lineOf sees the first 32 alone
+pub lineOf-take : (xs ys : List ℕ) → take 32 xs ≡ take 32 ys → lineOf xs ≡ lineOf ys
+unfolding lineOf
+lineOf-take xs ys p =
+    let q : pad 32 xs ≡ pad 32 ys = sym (pad-take 32 xs) ∙ ap (pad 32) p ∙ pad-take 32 ys in
+    λ i. record { ids = q i; len = length (p i) }
+
+pub members-lineOf : (xs : List ℕ) → members (lineOf xs) ≡ take 32 xs
+unfolding lineOf members
+members-lineOf xs = take-pad 32 xs
+
+pub members-short : (xs : List ℕ) → length xs ≤ 32 → members (lineOf xs) ≡ xs
+members-short xs h = members-lineOf xs ∙ take-all 32 xs h
+
+-- the slots of a line are read 32 at the most
+pub length-members : (l : Line) → length (l .ids) ≡ 32 → length (members l) ≡ min (l .len) 32
+unfolding members
+length-members l e = simp (length-take, e)
+
+pub members-take : (l : Line) → take (length (members l)) (l .ids) ≡ members l
+unfolding members
+members-take l = go (l .len) (l .ids)
+  where
+    go : (n : ℕ) (xs : List ℕ) → take (length (take n xs)) xs ≡ take n xs
+    go zero xs = refl
+    go (suc n) [] = refl
+    go (suc n) (x ∷ xs) = ap {B = List ℕ} (λ r. x ∷ r) (go n xs)
+
+-- ---- one more at the end
+-- one slot more
+pub take-one : (xs : List ℕ) (i : ℕ) → i < length xs → take (i + 1) xs ≡ take i xs ++ (getD xs i 0 ∷ [])
+take-one xs i h = rw (add-one, take-suc xs i 0)
+
+pub lineOf-len : (l : Line) (xs : List ℕ) → l ≡ lineOf xs → l .len ≡ min 32 (length xs)
+unfolding lineOf
+lineOf-len l xs e = ap (λ (u : Line). u .len) e ∙ length-take 32 xs
+
+-- a full line takes nobody in
+pub full : (l : Line) (xs : List ℕ) (t : ℕ) → l ≡ lineOf xs → 32 ≤ l .len → l ≡ lineOf (xs ++ (t ∷ []))
+full l xs t e h =
+    let n = lineOf-len l xs e in
+    e ∙ lineOf-take _ _ (sym (take-append-le 32 xs (t ∷ []) (omega (arith, n, h))))
+
+-- a store behind the last makes the line of one more
+pub one-more : (l : Line) (xs : List ℕ) (t : ℕ) → l ≡ lineOf xs → l .len < 32
+    → _≡_ {A = Line} (record { ids = set (l .ids) (l .len) t; len = l .len + 1 }) (lineOf (xs ++ (t ∷ [])))
+unfolding lineOf
+one-more l xs t e h =
+    let n = lineOf-len l xs e in
+    let m : l .len ≡ length xs = omega (arith, n, h) in
+    let s : length (xs ++ (t ∷ [])) ≡ length xs + 1 = length-append xs (t ∷ []) in
+    let q : take 32 (xs ++ (t ∷ [])) ≡ xs ++ (t ∷ []) = take-all 32 (xs ++ (t ∷ [])) (omega (arith, s, m, h)) in
+    let a : set (l .ids) (l .len) t ≡ pad 32 (xs ++ (t ∷ [])) =
+    ap₂ (λ (r : List ℕ) (k : ℕ). set r k t) (ap (λ (u : Line). u .ids) e) m ∙ set-pad 32 xs t (omega (arith, m, h)) in
+    let b : l .len + 1 ≡ length (take 32 (xs ++ (t ∷ []))) = omega (arith, ap length q, s, m) in
+    λ i. record { ids = a i; len = b i }
+
+-- ---- loops over a line
+-- one slot on: the others than t behind ys
+pub gather-keep : (ys : List ℕ) (t : ℕ) (xs : List ℕ) (i : ℕ) → i < length xs → (getD xs i 0 ≡ t → ⊥)
+    → ys ++ without t (take (i + 1) xs) ≡ ys ++ without t (take i xs) ++ (getD xs i 0 ∷ [])
+gather-keep ys t xs i h n =
+    ap {B = List ℕ} (λ r. ys ++ without t r) (take-one xs i h)
+    ∙ ap {B = List ℕ} (λ r. ys ++ r) (without-keep t (getD xs i 0) (take i xs) n)
+    ∙ sym (append-assoc ys (without t (take i xs)) (getD xs i 0 ∷ []))
+
+pub gather-skip : (ys : List ℕ) (t : ℕ) (xs : List ℕ) (i : ℕ) → i < length xs → getD xs i 0 ≡ t
+    → ys ++ without t (take (i + 1) xs) ≡ ys ++ without t (take i xs)
+gather-skip ys t xs i h e =
+    ap {B = List ℕ} (λ r. ys ++ without t r) (take-one xs i h)
+    ∙ ap {B = List ℕ} (λ r. ys ++ r) (without-skip t (getD xs i 0) (take i xs) e)
+
+-- one slot back in the first n
+pub back : (n i : ℕ) (xs : List ℕ) → 0 < i → i ≤ length (take n xs) → drop (i - 1) (take n xs) ≡ getD xs (i - 1) 0 ∷ drop i (take n xs)
+back n i xs pos le =
+    let e : suc (i - 1) ≡ i = omega arith in
+    let w = length-take n xs in
+    let g = getD-take n xs (i - 1) 0 (omega (arith, w)) in
+    drop-cons (take n xs) (i - 1) 0 (omega arith)
+    ∙ (λ j. g j ∷ drop (e j) (take n xs))
+
+-- nothing is left at the end
+pub back-start : (n : ℕ) (xs : List ℕ) → n ≤ length xs → drop n (take n xs) ≡ []
+back-start n xs h =
+    let d = length-take-le n xs h in
+    ap (λ (k : ℕ). drop k (take n xs)) (sym d) ∙ drop-length (take n xs)
+
+-- ---- clean lines
+pub clean-tested : (l : Line) → length (l .ids) ≡ 32 → cleanb l ≡ true → l ≡ lineOf (members l)
+unfolding cleanb lineOf members
+clean-tested l e h =
+    let n = leb-true (l .len) 32 (and-left (leb (l .len) 32) (allBelow 32 slots) h) in
+    let z : (i : ℕ) → l .len ≤ i → i < 32 → getD (l .ids) i 0 ≡ 0 = λ i a b.
+    eqb-true (getD (l .ids) i 0) 0 (or-rest (ltb i (l .len)) (eqb (getD (l .ids) i 0) 0) (all-at 32 slots (and-right (leb (l .len) 32) (allBelow 32 slots) h) i b) (go i a)) in
+    let q = pad-zeros 32 (l .len) (l .ids) e z in
+    let m : l .len ≡ length (take 32 (take (l .len) (l .ids))) = (let a = length-take 32 (take (l .len) (l .ids)) in let b = length-take (l .len) (l .ids) in omega (arith, a, b, n, e)) in
+    λ j. record { ids = q j; len = m j }
+  where
+    slots : ℕ → Bool
+    slots j = ltb j (l .len) || eqb (getD (l .ids) j 0) 0
+
+    go : (i : ℕ) → l .len ≤ i → ltb i (l .len) ≡ false
+    go i a = by-test (ltb i (l .len)) (λ q. absurd (let w = ltb-true i (l .len) q in omega (arith, w, a))) (λ q. q)
+
+pub lineOf-clean : (xs : List ℕ) → cleanb (lineOf xs) ≡ true
+unfolding cleanb lineOf
+lineOf-clean xs =
+    and-in (leb n 32) (allBelow 32 slots)
+    (le-leb n 32 (let a = length-take 32 xs in omega (arith, a)))
+    (all-in 32 slots
+    (λ i h. by-test (ltb i n)
+    (or-left (ltb i n) (eqb (getD (pad 32 xs) i 0) 0))
+    (λ q. or-right (ltb i n) (eqb (getD (pad 32 xs) i 0) 0) (eq-eqb (getD (pad 32 xs) i 0) 0 (zeros-pad 32 xs i (ltb-false i n q))))))
+  where
+    n : ℕ
+    n = length (take 32 xs)
+
+    slots : ℕ → Bool
+    slots i = ltb i n || eqb (getD (pad 32 xs) i 0) 0
