@@ -1,5 +1,5 @@
 -- Choices by a test, and tests of a range.
-use mathlib.Core.Bool.{Bool, true, false, _&&_}
+use mathlib.Core.Bool.{Bool, true, false, _&&_, _||_, not}
 use Prim.Native.Nat.{ℕ, zero, suc}
 
 infixr 20 if_then_else_
@@ -14,7 +14,7 @@ oneIf b = if b then 1 else 0
 
 -- where a holds, b holds
 unfoldable pub implies : Bool → Bool → Bool
-implies a b = if a then b else true
+implies a b = not a || b
 
 -- both hold, or neither does
 unfoldable pub agree : Bool → Bool → Bool

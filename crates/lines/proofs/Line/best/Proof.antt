@@ -7,9 +7,9 @@ use lib.ListN.{length-take, List·getD-eq-default}
 use Rattle.lines.specs.declared.Best.{Best}
 use Rattle.lines.specs.Lists.{filter, first, leastOf, bestOf, firstOfKey, firstWith}
 use Rattle.lines.specs.Lines.{members, keyIn, betterOf, bestWithKey}
-use Rattle.lines.proofs.Lists.{getD-any}
-use Rattle.lines.proofs.Bests.{better-step, better-skip}
-use Rattle.lines.proofs.Lines.{members-take, length-members, back, back-start}
+use Rattle.lines.proofs.Laws.Lists.{getD-any}
+use Rattle.lines.proofs.Laws.Bests.{better-step, better-skip}
+use Rattle.lines.proofs.Laws.Lines.{members-take, length-members, back, back-start}
 use Rattle.lines.proofs.Line.best.Statement.{statement}
 use Rattle.lines.proofs.Line.best.Tie as tie
 

@@ -8,8 +8,8 @@ use lib.Dec.{eqb}
 use Rattle.lines.specs.Logic.{oneIf}
 use Rattle.lines.specs.Lists.{count}
 use Rattle.lines.specs.Lines.{members}
-use Rattle.lines.proofs.Lists.{count-one}
-use Rattle.lines.proofs.Lines.{take-one, members-take, length-members}
+use Rattle.lines.proofs.Laws.Lists.{count-one}
+use Rattle.lines.proofs.Laws.Lines.{take-one, members-take, length-members}
 use Rattle.lines.proofs.Line.count.Statement.{statement}
 use Rattle.lines.proofs.Line.count.Tie as tie
 

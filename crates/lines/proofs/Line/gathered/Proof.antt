@@ -10,7 +10,7 @@ use Rattle.lines.specs.declared.Line.{Line}
 use Rattle.lines.specs.Logic.{if_then_else_}
 use Rattle.lines.specs.Lists.{filter, without, onlyIf}
 use Rattle.lines.specs.Lines.{members, pad, lineOf}
-use Rattle.lines.proofs.Lines.{members-take, length-members, full, one-more, gather-keep, gather-skip}
+use Rattle.lines.proofs.Laws.Lines.{members-take, length-members, full, one-more, gather-keep, gather-skip}
 use lib.ListN.{replicate}
 use Rattle.lines.proofs.Line.gathered.Statement.{statement}
 use Rattle.lines.proofs.Line.gathered.Tie as tie

@@ -8,7 +8,7 @@ use lib.Dec.{eqb, ltb}
 use mathlib.Core.Bool.{_&&_, _||_}
 use Rattle.lines.specs.Logic.{allBelow}
 use Rattle.lines.specs.Lines.{cleanb}
-use Rattle.lines.proofs.Logic.{all-more}
+use Rattle.lines.proofs.Laws.Logic.{all-more}
 use Rattle.lines.proofs.Line.is_clean.Statement.{statement}
 use Rattle.lines.proofs.Line.is_clean.Tie as tie
 

@@ -2,7 +2,7 @@ use Prim.Native.Nat.{_-_}
 use borrow.Author.Needs.{needs}
 use Rattle.lines.specs.Lists.{without, toEnd}
 use Rattle.lines.specs.Lines.{members}
-use Rattle.lines.proofs.Lines.{full, one-more}
+use Rattle.lines.proofs.Laws.Lines.{full, one-more}
 use Rattle.lines.proofs.Line.joined_end.Statement.{statement}
 use Rattle.lines.proofs.Line.joined_end.Tie as tie
 

@@ -6,8 +6,8 @@ use borrow.Author.Needs.{needs}
 use lib.ListN.{length, take, drop, getD}
 use lib.ListN.{length-take, length-drop}
 use Rattle.lines.specs.Lines.{members, tally}
-use Rattle.lines.proofs.Lines.{members-take, length-members, back, back-start}
-use Rattle.lines.proofs.Tallies.{slot-small, tally-small}
+use Rattle.lines.proofs.Laws.Lines.{members-take, length-members, back, back-start}
+use Rattle.lines.proofs.Laws.Tallies.{slot-small, tally-small}
 use Rattle.lines.proofs.Line.tally.Statement.{statement}
 use Rattle.lines.proofs.Line.tally.Tie as tie
 

@@ -11,8 +11,8 @@ use borrow.Author.Tests.{eq-eqb, ne-eqb, lt-ltb, le-ltb, ltb-true, ltb-false}
 use Rattle.lines.specs.Lines.{slotOf, tally}
 use Rattle.lines.specs.Logic.{if_then_else_, oneIf}
 use Rattle.lines.specs.Lists.{count, below}
-use Rattle.lines.proofs.Logic.{by-test, by-eq, by-choice}
-use Rattle.lines.proofs.Lists.{count-here, count-there}
+use Rattle.lines.proofs.Laws.Logic.{by-test, by-eq, by-choice}
+use Rattle.lines.proofs.Laws.Lists.{count-here, count-there}
 
 pub slot-in : (x : ℕ) → x < 32 → slotOf x ≡ x
 unfolding slotOf

@@ -10,8 +10,8 @@ use Rattle.lines.specs.Logic.{if_then_else_}
 use Rattle.lines.specs.Lists.{filter, without, onlyIf, count, first, firstWith, leastOf, firstOfKey, bestOf}
 use Rattle.lines.specs.Lines.{betterOf, bestWithKey}
 use Rattle.lines.specs.declared.Best.{Best}
-use Rattle.lines.proofs.Logic.{by-test, by-eq, by-choice, never}
-use Rattle.lines.proofs.Lists.{first-here, first-later, first-holds, first-stands, filter-yes, filter-no, count-here, count-there}
+use Rattle.lines.proofs.Laws.Logic.{by-test, by-eq, by-choice, never}
+use Rattle.lines.proofs.Laws.Lists.{first-here, first-later, first-holds, first-stands, filter-yes, filter-no, count-here, count-there}
 
 module _ (key : ℕ → ℕ) where
   pub least-low : (xs : List ℕ) → leastOf key xs ≤ 32

@@ -14,8 +14,8 @@ use Rattle.lines.specs.declared.Line.{Line}
 use Rattle.lines.specs.Logic.{allBelow}
 use Rattle.lines.specs.Lists.{without}
 use Rattle.lines.specs.Lines.{members, pad, lineOf, cleanb}
-use Rattle.lines.proofs.Logic.{by-test, and-left, and-right, and-in, or-left, or-right, or-rest, all-at, all-in}
-use Rattle.lines.proofs.Lists.{without-keep, without-skip}
+use Rattle.lines.proofs.Laws.Logic.{by-test, and-left, and-right, and-in, or-left, or-right, or-rest, all-at, all-in}
+use Rattle.lines.proofs.Laws.Lists.{without-keep, without-skip}
 
 -- ---- slots
 -- what was put in stands at the front

@@ -1,0 +1,5 @@
+pub mod Logic
+pub mod Lists
+pub mod Bests
+pub mod Lines
+pub mod Tallies

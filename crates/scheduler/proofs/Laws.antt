@@ -1,0 +1,3 @@
+pub mod Threads
+pub mod Loops
+pub mod Choice

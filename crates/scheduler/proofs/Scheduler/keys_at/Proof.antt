@@ -1,0 +1,72 @@
+use mathlib.Core.Path.{_≡_, refl, sym, ap, _∙_}
+use Prim.Native.Nat.{_≤_, _-_}
+use native.Mathlib.Omega.{arith}
+use borrow.Author.Needs.{needs}
+use lib.ListN.{length, take}
+use mathlib.Core.List.{map}
+use lib.ListN.{length-set}
+use lib.Seq.{take-all}
+use Rattle.scheduler.specs.Orders.{keyAt, keysAt}
+use Rattle.scheduler.proofs.Laws.Threads.{length-mapped}
+use Rattle.scheduler.proofs.Laws.Loops.{filled}
+use Rattle.scheduler.proofs.Scheduler.keys_at.Statement.{statement}
+use Rattle.scheduler.proofs.Scheduler.keys_at.Tie as tie
+
+abbrev Inv-loop : tie.InvT-loop
+Inv-loop p self keys₀ t₀ keys t = (t ≤ 32) × (length keys ≡ 32) × (take t keys ≡ map (keyAt p) (take t (self .threads)))
+
+abbrev μ-loop : tie.MeasureT-loop
+μ-loop p self keys₀ t₀ keys t = 32 - t
+
+loop-holds : tie.Need-loop-holds Inv-loop μ-loop
+loop-holds c = (omega arith, refl, refl)
+
+mul-key-at : tie.Need-mul-key-at Inv-loop μ-loop
+mul-key-at c = search needs
+
+element-copy-out-key-at : tie.Need-element-copy-out-key-at Inv-loop μ-loop
+element-copy-out-key-at c = search needs
+
+key-at-requires : tie.Need-key-at-requires Inv-loop μ-loop
+key-at-requires c κs = search needs
+
+array-write-keys : tie.Need-array-write-keys Inv-loop μ-loop
+array-write-keys c = search needs
+
+add-t : tie.Need-add-t Inv-loop μ-loop
+add-t c = search needs
+
+loop-less : tie.Need-loop-less Inv-loop μ-loop
+loop-less c = search needs
+
+loop-again : tie.Need-loop-again Inv-loop μ-loop
+loop-again c =
+    let a = c .before .before .before .before .args in
+    let l = c .before .before .before .loop in
+    let e : length (a .t1 .threads) ≡ 32 = search length-mapped in
+    (omega arith, simp length-set (l .inv .1), filled (keyAt (a .p)) (l .keys) (a .t1 .threads) (l .t) _ (c .key-at .result) (omega arith) (omega arith) (c .key-at .ensures) (l .inv .2))
+
+returns : tie.Need-returns Inv-loop μ-loop
+unfolding keysAt
+returns c =
+    let a = c .before .before .args in
+    let l = c .before .loop in
+    let e : length (a .t1 .threads) ≡ 32 = search length-mapped in
+    let i : l .t ≡ 32 = omega arith in
+    sym (take-all 32 (l .keys) (omega (arith, l .inv .1))) ∙ (rw i at (l .inv .2)) ∙ ap (map (keyAt (a .p))) (take-all 32 (a .t1 .threads) (omega (arith, e)))
+
+pub keys-at-spec : {M : Type 1} → statement M
+keys-at-spec =
+    tie.close
+    (tie.spec
+    Inv-loop
+    μ-loop
+    loop-holds
+    mul-key-at
+    element-copy-out-key-at
+    key-at-requires
+    array-write-keys
+    add-t
+    loop-less
+    loop-again
+    returns)

@@ -1,0 +1,34 @@
+use mathlib.Core.Path.{_≡_, refl}
+use Prim.Native.Nat.{_≤_, _-_}
+use native.Mathlib.Omega.{arith}
+use borrow.Author.Needs.{needs}
+use lib.ListN.{length}
+use lib.Seq.{set-out}
+use Rattle.scheduler.specs.Orders.{withThread}
+use Rattle.scheduler.proofs.Laws.Threads.{length-mapped}
+use Rattle.scheduler.proofs.Scheduler.with_thread.Statement.{statement}
+use Rattle.scheduler.proofs.Scheduler.with_thread.Tie as tie
+
+cast-i : tie.Need-cast-i
+cast-i c = search needs
+
+returns : tie.Need-returns
+unfolding withThread
+returns c =
+    let a = c .before .before .args in
+    let e : length (a .self .threads) ≡ 32 = search length-mapped in
+    let h : length (a .self .threads) ≤ a .t .0 = omega arith in
+    rw (set-out (a .self .threads) (a .t .0) (a .th) h)
+
+mul-th : tie.Need-mul-th
+mul-th c = search needs
+
+element-set-from-th : tie.Need-element-set-from-th
+element-set-from-th c = search needs
+
+returns-2 : tie.Need-returns-2
+unfolding withThread
+returns-2 c = refl
+
+pub with-thread-spec : {M : Type 1} → statement M
+with-thread-spec = tie.close (tie.spec cast-i returns mul-th element-set-from-th returns-2)

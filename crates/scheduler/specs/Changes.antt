@@ -1,0 +1,25 @@
+-- Priority change and preemption change. The choice that follows is not part of them.
+use mathlib.Core.Bool.{Bool, true, false, _&&_}
+use Prim.Native.Nat.{ℕ, min}
+use lib.Dec.{ltb}
+use Rattle.lines.specs.Logic.{if_then_else_}
+use Rattle.scheduler.specs.declared.thread.Thread.{Thread}
+use Rattle.scheduler.specs.declared.Scheduler.{Scheduler}
+use Rattle.scheduler.specs.Threads.{readyb}
+use Rattle.scheduler.specs.Orders.{threadAt, withThread, moved}
+
+-- a priority and a threshold; a mark lasts while the threshold is below the priority
+unfoldable pub withLevels : ℕ → ℕ → Thread → Thread
+withLevels p h th = record { created = th .created; state = th .state; priority = p; threshold = h; marked = th .marked && ltb h p; suspending = th .suspending; object = th .object; ticks = th .ticks }
+
+-- "Priority change moves a ready thread to the end of the new order, and its threshold becomes the smaller of the old threshold and the new priority."
+-- A thread that is not ready keeps its place.
+unfoldable pub priorityChanged : Scheduler → ℕ → ℕ → Scheduler
+priorityChanged s t p =
+    if readyb (threadAt s t)
+    then moved s t (withLevels p (min (threadAt s t .threshold) p) (threadAt s t))
+    else withThread s t (withLevels p (min (threadAt s t .threshold) p) (threadAt s t))
+
+-- preemption change: another threshold, the place kept
+unfoldable pub preemptionChanged : Scheduler → ℕ → ℕ → Scheduler
+preemptionChanged s t h = withThread s t (withLevels (threadAt s t .priority) h (threadAt s t))

@@ -1,0 +1,5 @@
+pub mod Threads
+pub mod Orders
+pub mod Choice
+pub mod Changes
+pub mod Sound

@@ -1,0 +1,66 @@
+// Moves: a thread gets another record and joins the order that the record puts it in.
+ghost use mathlib.Core.Path.{_≡_};
+ghost use Rattle.scheduler.specs.Orders.{moved, movedFront, keysAt, prioritisedAt};
+use super::Scheduler;
+use super::thread::Place;
+use super::thread::Thread;
+use lines::ThreadId;
+
+impl Scheduler {
+    // Thread `t` with another record, at the end of its order, or in none.
+    pub fn moved(self, t: ThreadId, th: Thread) -> Scheduler
+        ensures { λ r. ⌜ r ≡ moved self (t .0) th ⌝ }
+    {
+        let o = self.order;
+        let mut s = self.with_thread(t, th);
+        if th.is_standing() {
+            let l = o.joined_end(t);
+            s.order = l;
+        } else {
+            let l = o.without(t);
+            s.order = l;
+        }
+        s
+    }
+
+    // Thread `t` with another record, at the front of its order, or in none.
+    pub fn moved_front(self, t: ThreadId, th: Thread) -> Scheduler
+        ensures { λ r. ⌜ r ≡ movedFront self (t .0) th ⌝ }
+    {
+        let o = self.order;
+        let mut s = self.with_thread(t, th);
+        if th.is_standing() {
+            let l = o.joined_front(t);
+            s.order = l;
+        } else {
+            let l = o.without(t);
+            s.order = l;
+        }
+        s
+    }
+
+    // Each thread's key at a place.
+    fn keys_at(self, p: Place) -> [u8; 32]
+        ensures { λ r. ⌜ r ≡ keysAt self p ⌝ }
+    {
+        let mut keys: [u8; 32] = [0; 32];
+        let mut t: usize = 0;
+        while t < 32 {
+            keys[t] = self.threads[t].key_at(p);
+            t += 1;
+        }
+        keys
+    }
+
+    // The first of the best priority at a place moved to its front, and nothing else.
+    pub fn prioritised(self, p: Place) -> Scheduler
+        ensures { λ r. ⌜ r ≡ prioritisedAt self p ⌝ }
+    {
+        let keys = self.keys_at(p);
+        let o = self.order;
+        let l = o.prioritised(keys);
+        let mut s = self;
+        s.order = l;
+        s
+    }
+}

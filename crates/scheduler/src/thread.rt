@@ -1,0 +1,189 @@
+// What scheduling needs of a thread, and the place where a thread stands.
+ghost use mathlib.Core.Path.{_≡_};
+ghost use Rattle.lines.specs.Logic.{if_then_else_};
+ghost use Rattle.lines.specs.Lists.{worst};
+ghost use Rattle.scheduler.specs.Threads.{uncreated, noThread, readyb, waitsb, pausedb, standsb, numberOf, placedb};
+ghost use Rattle.scheduler.specs.Orders.{keyAt};
+ghost use Rattle.scheduler.specs.Choice.{wantedb, consideredOf};
+ghost use Rattle.scheduler.specs.Sound.{zerob, fitb, countedb};
+
+pub const READY: u8 = 0;
+
+pub const COMPLETED: u8 = 1;
+
+pub const TERMINATED: u8 = 2;
+
+pub const SUSPENDED: u8 = 3;
+
+pub const ASLEEP: u8 = 4;
+
+pub const ON_QUEUE: u8 = 5;
+
+pub const ON_SEMAPHORE: u8 = 6;
+
+pub const ON_FLAGS: u8 = 7;
+
+pub const ON_BLOCK: u8 = 8;
+
+// Priorities are 0 to 31: this number is worse than all of them.
+pub const WORST: u8 = 32;
+
+// A thread's record. `suspending` says that a suspension is held until the wait ends; `ticks` are those left of a
+// wait or sleep, the largest number for one without end.
+pub struct Thread {
+    pub created: bool,
+    pub state: u8,
+    pub priority: u8,
+    pub threshold: u8,
+    pub marked: bool,
+    pub suspending: bool,
+    pub object: u8,
+    pub ticks: u32,
+}
+
+// Where threads stand: a state, and the priority of the ready threads or the object of the waiters.
+pub struct Place {
+    pub state: u8,
+    pub number: u8,
+}
+
+impl Thread {
+    // The record of a thread that is not created.
+    pub fn uncreated() -> Thread
+        ensures { λ r. ⌜ r ≡ uncreated ⌝ }
+    {
+        Thread {
+            created: false,
+            state: READY,
+            priority: 0,
+            threshold: 0,
+            marked: false,
+            suspending: false,
+            object: 0,
+            ticks: 0,
+        }
+    }
+
+    // The record that stands for a thread past the table.
+    pub fn none() -> Thread
+        ensures { λ r. ⌜ r ≡ noThread ⌝ }
+    {
+        Thread {
+            created: false,
+            state: READY,
+            priority: WORST,
+            threshold: WORST,
+            marked: false,
+            suspending: false,
+            object: 0,
+            ticks: 0,
+        }
+    }
+
+    pub fn is_ready(self) -> bool
+        ensures { λ r. ⌜ r ≡ readyb self ⌝ }
+    {
+        self.created & (self.state == READY)
+    }
+
+    // Whether the thread waits on an object.
+    pub fn is_waiting(self) -> bool
+        ensures { λ r. ⌜ r ≡ waitsb self ⌝ }
+    {
+        self.created & (ASLEEP < self.state)
+    }
+
+    // Whether the thread waits or sleeps.
+    pub fn is_paused(self) -> bool
+        ensures { λ r. ⌜ r ≡ pausedb self ⌝ }
+    {
+        (self.created & (ASLEEP < self.state)) | (self.created & (self.state == ASLEEP))
+    }
+
+    // Whether the thread stands in an order.
+    pub fn is_standing(self) -> bool
+        ensures { λ r. ⌜ r ≡ standsb self ⌝ }
+    {
+        (self.created & (self.state == READY)) | (self.created & (ASLEEP < self.state))
+    }
+
+    // The number beside the state of the place where the thread stands.
+    fn number(self) -> u8
+        ensures { λ r. ⌜ r ≡ numberOf self ⌝ }
+    {
+        if self.state == READY {
+            self.priority
+        } else {
+            self.object
+        }
+    }
+
+    // Whether the thread stands at place `p`.
+    pub fn is_at(self, p: Place) -> bool
+        ensures { λ r. ⌜ r ≡ placedb p self ⌝ }
+    {
+        self.is_standing() & (self.state == p.state) & (self.number() == p.number)
+    }
+
+    // The key by which the thread is compared at place `p`: its priority, or 255 elsewhere.
+    pub fn key_at(self, p: Place) -> u8
+        ensures { λ r. ⌜ r ≡ keyAt p self ⌝ }
+    {
+        if self.is_at(p) { self.priority } else { 255 }
+    }
+
+    // Whether the thread is ready, and marked where only the marked are wanted.
+    pub fn is_wanted(self, marked: bool) -> bool
+        ensures { λ r. ⌜ r ≡ wantedb marked self ⌝ }
+    {
+        if marked {
+            self.is_ready() & self.marked
+        } else {
+            self.is_ready()
+        }
+    }
+
+    // Whether an uncreated record is zero.
+    fn is_zero(self) -> bool
+        ensures { λ r. ⌜ r ≡ zerob self ⌝ }
+    {
+        (self.state == 0)
+            & (self.priority == 0)
+            & (self.threshold == 0)
+            & !self.marked
+            & !self.suspending
+            & (self.object == 0)
+            & (self.ticks == 0)
+    }
+
+    // Whether the record is fit in itself.
+    pub fn is_fit(self) -> bool
+        ensures { λ r. ⌜ r ≡ fitb self ⌝ }
+    {
+        let waiting = self.is_waiting();
+        let paused = self.is_paused();
+        let ready = self.is_ready();
+        if self.created {
+            let limits = (self.state <= ON_BLOCK)
+                & (self.priority < WORST)
+                & (self.threshold <= self.priority);
+            let mark = !self.marked | (ready & (self.threshold < self.priority));
+            let suspension = !self.suspending | paused;
+            let ticks = (!paused | (0 < self.ticks)) & (paused | (self.ticks == 0));
+            let object = waiting | (self.object == 0);
+            return limits & mark & suspension & ticks & object;
+        }
+        self.is_zero()
+    }
+
+    // Whether the record is fit and says that its thread stands `n` times.
+    pub fn is_counted(self, n: u8) -> bool
+        ensures { λ r. ⌜ r ≡ countedb n self ⌝ }
+    {
+        let fit = self.is_fit();
+        if self.is_standing() {
+            return (n == 1) & fit;
+        }
+        (n == 0) & fit
+    }
+}
