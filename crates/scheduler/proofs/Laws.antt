@@ -1,3 +1,5 @@
 pub mod Threads
 pub mod Loops
 pub mod Choice
+pub mod Orders
+pub mod Choosing

@@ -11,7 +11,7 @@ use Rattle.lines.specs.Lists.{filter, without, onlyIf, count, first, fir
 use Rattle.lines.specs.Lines.{betterOf, bestWithKey}
 use Rattle.lines.specs.declared.Best.{Best}
 use Rattle.lines.proofs.Laws.Logic.{by-test, by-eq, by-choice, never}
-use Rattle.lines.proofs.Laws.Lists.{first-here, first-later, first-holds, first-stands, filter-yes, filter-no, count-here, count-there}
+use Rattle.lines.proofs.Laws.Lists.{first-here, first-later, first-holds, first-stands, first-known, first-some, filter-yes, filter-no, count-here, count-there}
 
 module _ (key : ℕ → ℕ) where
   pub least-low : (xs : List ℕ) → leastOf key xs ≤ 32
@@ -28,21 +28,6 @@ module _ (key : ℕ → ℕ) where
       (λ e. let k = ap key e in omega (arith, k))
       (λ e. let c = count-there t x xs e in let l : 0 < count t (x ∷ xs) = h in let r = least-least xs t (omega (arith, c, l)) in omega (arith, r))
 
-  -- where somebody has a key that counts, the smallest key is somebody's
-  firstKey : (k : ℕ) (xs : List ℕ) (t : ℕ) → key t ≡ k → 0 < count t xs → ((u : ℕ) → 0 < count u xs → u < 32) → firstOfKey key k xs < 32
-  unfolding firstOfKey count firstWith first filter
-  firstKey k [] t e h small = absurd (let z : 0 < 0 = h in omega arith)
-  firstKey k (x ∷ xs) t e h small =
-      by-test (eqb (key x) k)
-      (λ q. let f = first-here (λ y. eqb (key y) k) x xs q in
-      let l = small x (let c = count-here x xs in omega (arith, c)) in omega (arith, f, l))
-      (λ q. let f = first-later (λ y. eqb (key y) k) x xs q in
-      let n : x ≡ t → ⊥ = λ w. never (eq-eqb (key x) k (ap key w ∙ e)) q in
-      let c = count-there t x xs n in
-      let l : 0 < count t (x ∷ xs) = h in
-      let r = firstKey k xs t e (omega (arith, c, l)) (λ u g. small u (let z : count u xs ≤ count u (x ∷ xs) = omega arith in omega (arith, z, g))) in
-      omega (arith, f, r))
-
   -- the best one has the smallest key, and stands in the list
   pub best-key : (xs : List ℕ) → bestOf key xs < 32 → key (bestOf key xs) ≡ leastOf key xs
   unfolding bestOf firstOfKey
@@ -54,6 +39,33 @@ module _ (key : ℕ → ℕ) where
 
   pub best-least : (xs : List ℕ) (t : ℕ) → bestOf key xs < 32 → 0 < count t xs → key (bestOf key xs) ≤ key t
   best-least xs t h c = let a = best-key xs h in let b = least-least xs t c in omega (arith, a, b)
+
+  -- a smallest key that counts is somebody's
+  attained : (xs : List ℕ) → leastOf key xs < 32 → (u : ℕ) × (0 < count u xs) × (key u ≡ leastOf key xs)
+  unfolding leastOf count
+  attained [] h = absurd (let z : 32 < 32 = h in omega arith)
+  attained (x ∷ xs) h =
+      by-test (ltb (leastOf key xs) (key x))
+      (λ w. let l = ltb-true (leastOf key xs) (key x) w in
+      let r = attained xs (let z : min (key x) (leastOf key xs) < 32 = h in omega (arith, z, l)) in
+      let c = r .1 in
+      let e = r .2 in
+      (r .0, omega (arith, c), omega (arith, e, l)))
+      (λ w. let l = ltb-false (leastOf key xs) (key x) w in let c = count-here x xs in (x, omega (arith, c), omega (arith, l)))
+
+  -- in a list of threads the best is one of them, or nobody
+  module _ (xs : List ℕ) (small : (u : ℕ) → 0 < count u xs → u < 32) where
+    pub best-known : bestOf key xs ≤ 32
+    unfolding bestOf firstOfKey
+    best-known = first-known (λ x. eqb (key x) (leastOf key xs)) xs small
+
+    -- and somebody, where attained key counts
+    pub best-some : (t : ℕ) → 0 < count t xs → key t < 32 → bestOf key xs < 32
+    unfolding bestOf firstOfKey
+    best-some t c l =
+        let a = least-least xs t c in
+        let b = attained xs (omega (arith, a, l)) in
+        first-some (λ x. eqb (key x) (leastOf key xs)) xs (b .0) (b .1) (eq-eqb (key (b .0)) (leastOf key xs) (b .2)) small
 
   -- ---- the loop from the end of a line
   pub better-step : (x : ℕ) (xs : List ℕ) → betterOf x (key x) (bestWithKey key xs) ≡ bestWithKey key (x ∷ xs)

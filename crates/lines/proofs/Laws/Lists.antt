@@ -238,6 +238,28 @@ module _ (f : ℕ → Bool) where
       let c = first-stands xs (let l : firstWith f (x ∷ xs) < 32 = h in omega (arith, e, l)) in
       let z = ap (λ (y : ℕ). count y (x ∷ xs)) e in omega (arith, c, z))
 
+-- of a list of threads: a thread or nobody, and somebody where the test holds of somebody
+pub first-known : (f : ℕ → Bool) (xs : List ℕ) → ((v : ℕ) → 0 < count v xs → v < 32) → firstWith f xs ≤ 32
+unfolding firstWith first filter count
+first-known f [] small = omega arith
+first-known f (x ∷ xs) small =
+    by-test (f x)
+    (λ q. let e = first-here f x xs q in let l = small x (let c = count-here x xs in omega (arith, c)) in omega (arith, e, l))
+    (λ q. let e = first-later f x xs q in
+    let r = first-known f xs (λ v c. small v (let z : count v xs ≤ count v (x ∷ xs) = omega arith in omega (arith, z, c))) in omega (arith, e, r))
+
+pub first-some : (f : ℕ → Bool) (xs : List ℕ) (u : ℕ) → 0 < count u xs → f u ≡ true → ((v : ℕ) → 0 < count v xs → v < 32) → firstWith f xs < 32
+unfolding firstWith first filter count
+first-some f [] u c h small = absurd (let z : 0 < 0 = c in omega arith)
+first-some f (x ∷ xs) u c h small =
+    by-test (f x)
+    (λ q. let e = first-here f x xs q in let l = small x (let d = count-here x xs in omega (arith, d)) in omega (arith, e, l))
+    (λ q. let e = first-later f x xs q in
+    let n : x ≡ u → ⊥ = λ w. never h (ap f (sym w) ∙ q) in
+    let d = count-there u x xs n in
+    let l : 0 < count u (x ∷ xs) = c in
+    let r = first-some f xs u (omega (arith, d, l)) h (λ v g. small v (let z : count v xs ≤ count v (x ∷ xs) = omega arith in omega (arith, z, g))) in omega (arith, e, r))
+
 -- ---- a list that begins with a list
 -- whoever is taken out, and whoever joins the end
 pub begins-moved : (r l : List ℕ) (t : ℕ) (ys : List ℕ) → Begins r l → Begins (without t r) (without t l ++ ys)
