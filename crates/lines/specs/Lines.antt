@@ -1,6 +1,6 @@
 -- A line in its slots: who stands in it, and the line that a list makes.
 use mathlib.Core.List.{List, [], _∷_}
-use mathlib.Core.Bool.{Bool, true, false, _&&_, _||_}
+use mathlib.Core.Bool.{Bool, _&&_, _||_}
 use Prim.Native.Nat.{ℕ, zero, suc, _+_}
 use lib.ListN.{length, take, getD, set, replicate}
 use lib.Dec.{eqb, ltb, leb}

@@ -1,7 +1,7 @@
 -- Lists of thread numbers: joining, taking out, the part for which a test holds, the first and the best.
 use mathlib.Core.Path.{_≡_}
 use mathlib.Core.List.{List, [], _∷_, _++_}
-use mathlib.Core.Bool.{Bool, true, false, _&&_, not}
+use mathlib.Core.Bool.{Bool, true, _&&_, not}
 use Prim.Native.Nat.{ℕ, _+_, min}
 use lib.ListN.{getD}
 use lib.Dec.{eqb, ltb}

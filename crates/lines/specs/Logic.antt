@@ -16,13 +16,6 @@ oneIf b = if b then 1 else 0
 unfoldable pub implies : Bool → Bool → Bool
 implies a b = not a || b
 
--- both hold, or neither does
-unfoldable pub agree : Bool → Bool → Bool
-agree true true = true
-agree true false = false
-agree false true = false
-agree false false = true
-
 -- f holds of every number below n
 unfoldable pub allBelow : ℕ → (ℕ → Bool) → Bool
 allBelow zero f = true

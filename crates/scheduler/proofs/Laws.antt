@@ -1,5 +1,10 @@
 pub mod Threads
 pub mod Loops
-pub mod Choice
 pub mod Orders
+pub mod Choice
 pub mod Choosing
+pub mod Changing
+pub mod Testing
+pub mod Fairness
+pub mod Claims
+pub mod Cases

@@ -1,5 +1,5 @@
 -- Priority change and preemption change. The choice that follows is not part of them.
-use mathlib.Core.Bool.{Bool, true, false, _&&_}
+use mathlib.Core.Bool.{_&&_}
 use Prim.Native.Nat.{ℕ, min}
 use lib.Dec.{ltb}
 use Rattle.lines.specs.Logic.{if_then_else_}

@@ -3,3 +3,5 @@ pub mod Orders
 pub mod Choice
 pub mod Changes
 pub mod Sound
+pub mod Claims
+pub mod Cases

@@ -1,12 +1,10 @@
 -- The threads, the one line of all that stand, the orders of the places in it, and the moves.
 use mathlib.Core.List.{List, [], _++_, map}
-use mathlib.Core.Bool.{Bool, true, false}
 use Prim.Native.Nat.{ℕ}
 use lib.ListN.{getD, set, replicate}
 use Rattle.lines.specs.Logic.{if_then_else_}
 use Rattle.lines.specs.Lists.{nobody, filter, without, onlyIf, first, prioritised}
 use Rattle.lines.specs.Lines.{members, lineOf}
-use Rattle.lines.specs.declared.ThreadId.{ThreadId}
 use Rattle.scheduler.specs.declared.thread.Thread.{Thread}
 use Rattle.scheduler.specs.declared.thread.Place.{Place}
 use Rattle.scheduler.specs.declared.Scheduler.{Scheduler}

@@ -1,6 +1,5 @@
 -- Sound threads and orders: the scheduler's part of "Tables are sound when ..".
 use mathlib.Core.Path.{_≡_}
-use mathlib.Core.List.{List}
 use mathlib.Core.Bool.{Bool, true, false, _&&_, _||_, not}
 use Prim.Native.Nat.{ℕ, _<_, _≤_}
 use lib.ListN.{length}

@@ -1,9 +1,9 @@
 -- A thread's record for scheduling, its states, and the place where it stands.
-use mathlib.Core.Bool.{Bool, true, false, _&&_, _||_}
+use mathlib.Core.Bool.{Bool, false, _&&_, _||_}
 use Prim.Native.Nat.{ℕ}
 use lib.Dec.{eqb, ltb}
 use Rattle.lines.specs.Logic.{if_then_else_}
-use Rattle.lines.specs.Lists.{nobody, worst}
+use Rattle.lines.specs.Lists.{worst}
 use Rattle.scheduler.specs.declared.thread.Thread.{Thread}
 use Rattle.scheduler.specs.declared.thread.Place.{Place}
 

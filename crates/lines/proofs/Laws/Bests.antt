@@ -1,16 +1,16 @@
 -- Laws of the best of a list: it is the first of those with the smallest key.
 use mathlib.Core.Path.{_≡_, refl, sym, ap, _∙_}
-use mathlib.Core.List.{List, [], _∷_, _++_}
+use mathlib.Core.List.{List, [], _∷_}
 use mathlib.Core.Bool.{Bool, true, false}
-use Prim.Native.Nat.{ℕ, zero, suc, _+_, _≤_, _<_, min}
+use Prim.Native.Nat.{ℕ, _≤_, _<_, min}
 use native.Mathlib.Omega.{arith}
 use lib.Dec.{eqb, ltb}
-use borrow.Author.Tests.{eqb-true, eq-eqb, ne-eqb, lt-ltb, le-ltb, ltb-true, ltb-false}
+use borrow.Author.Tests.{eqb-true, eq-eqb, ne-eqb, ltb-true, ltb-false}
 use Rattle.lines.specs.Logic.{if_then_else_}
-use Rattle.lines.specs.Lists.{filter, without, onlyIf, count, first, firstWith, leastOf, firstOfKey, bestOf}
+use Rattle.lines.specs.Lists.{filter, count, first, firstWith, leastOf, firstOfKey, bestOf}
 use Rattle.lines.specs.Lines.{betterOf, bestWithKey}
 use Rattle.lines.specs.declared.Best.{Best}
-use Rattle.lines.proofs.Laws.Logic.{by-test, by-eq, by-choice, never}
+use Rattle.lines.proofs.Laws.Logic.{by-test, by-eq}
 use Rattle.lines.proofs.Laws.Lists.{first-here, first-later, first-holds, first-stands, first-known, first-some, filter-yes, filter-no, count-here, count-there}
 
 module _ (key : ℕ → ℕ) where

@@ -1,15 +1,15 @@
 -- Laws of lines: what stands in a line that was made from a list.
 use mathlib.Core.Path.{_≡_, refl, sym, ap, _∙_, ap₂}
 use mathlib.Core.List.{List, [], _∷_, _++_, append-assoc}
-use mathlib.Core.Bool.{Bool, true, false, _&&_, _||_}
+use mathlib.Core.Bool.{Bool, true, false, _||_}
 use Prim.Native.Nat.{ℕ, zero, suc, _+_, _-_, _≤_, _<_, min}
 use native.Mathlib.Nat.{not-suc-le-zero, le-of-suc-le-suc}
 use native.Mathlib.Omega.{arith}
 use native.Mathlib.Numerals.{add-one}
-use lib.ListN.{length, take, drop, getD, set, length-append, length-take, List·getD-eq-default}
+use lib.ListN.{length, take, drop, getD, set, length-append, length-take}
 use lib.Dec.{eqb, ltb, leb}
 use lib.Seq.{take-suc, take-all, take-append-le, take-nil, getD-take, drop-cons, drop-length, length-take-le}
-use borrow.Author.Tests.{eqb-true, eq-eqb, lt-ltb, leb-true, le-leb, ltb-true, ltb-false}
+use borrow.Author.Tests.{eqb-true, eq-eqb, leb-true, le-leb, ltb-true, ltb-false}
 use Rattle.lines.specs.declared.Line.{Line}
 use Rattle.lines.specs.Logic.{allBelow}
 use Rattle.lines.specs.Lists.{without}

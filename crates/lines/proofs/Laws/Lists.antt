@@ -7,7 +7,7 @@ use native.Mathlib.Nat.{zero-add, not-suc-le-zero, le-of-suc-le-suc}
 use native.Mathlib.Omega.{arith}
 use lib.ListN.{length, getD}
 use lib.Dec.{eqb, ltb}
-use borrow.Author.Tests.{eq-eqb, ne-eqb, eqb-true, eqb-false, ltb-true, ltb-false}
+use borrow.Author.Tests.{eq-eqb, ne-eqb, eqb-false, ltb-true, ltb-false}
 use Rattle.lines.specs.Logic.{if_then_else_, oneIf}
 use Rattle.lines.specs.Lists.{filter, without, onlyIf, count, below, first, firstWith, Begins}
 use Rattle.lines.proofs.Laws.Logic.{by-test, by-eq, never, and-left, and-right, and-in}

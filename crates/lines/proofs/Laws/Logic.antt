@@ -1,13 +1,13 @@
 -- Laws of tests and of choices by a test.
 use mathlib.Core.Path.{_≡_, refl, sym, ap, _∙_}
-use mathlib.Core.Bool.{Bool, true, false, _&&_, _||_, not}
+use mathlib.Core.Bool.{Bool, true, false, _&&_, _||_}
 use Prim.Native.Nat.{ℕ, zero, suc, _+_, _≤_, _<_}
 use native.Mathlib.Nat.{not-suc-le-zero}
 use native.Mathlib.Omega.{arith}
 use native.Mathlib.Numerals.{add-one}
 use lib.Dec.{eqb}
 use borrow.Author.Tests.{eqb-true, eqb-false}
-use Rattle.lines.specs.Logic.{if_then_else_, oneIf, implies, agree, allBelow}
+use Rattle.lines.specs.Logic.{if_then_else_, oneIf, implies, allBelow}
 
 -- a case for each answer of a test
 pub by-test : {P : Type 0} (b : Bool) → (b ≡ true → P) → (b ≡ false → P) → P
@@ -58,7 +58,7 @@ pub or-rest : (a b : Bool) → (a || b) ≡ true → a ≡ false → b ≡ true
 or-rest true b e n = never e n
 or-rest false b e n = e
 
--- ---- implications and agreements
+-- ---- implications
 pub implies-out : (a b : Bool) → implies a b ≡ true → a ≡ true → b ≡ true
 unfolding implies
 implies-out true b e h = e
@@ -68,20 +68,6 @@ pub implies-in : (a b : Bool) → (a ≡ true → b ≡ true) → implies a b �
 unfolding implies
 implies-in true b h = h refl
 implies-in false b h = refl
-
-pub agree-out : (a b : Bool) → agree a b ≡ true → a ≡ b
-unfolding agree
-agree-out true true e = refl
-agree-out true false e = never e refl
-agree-out false true e = never e refl
-agree-out false false e = refl
-
-pub agree-in : (a b : Bool) → a ≡ b → agree a b ≡ true
-unfolding agree
-agree-in true true e = refl
-agree-in true false e = sym e
-agree-in false true e = e
-agree-in false false e = refl
 
 pub one-at-most : (b : Bool) → oneIf b ≤ 1
 unfolding oneIf

@@ -1,27 +1,25 @@
 -- The choice after a call moves nobody, and leaves steady tables sound.
-use mathlib.Core.Path.{_≡_, refl, sym, ap, _∙_}
-use mathlib.Core.List.{List}
-use mathlib.Core.Bool.{Bool, true, false, _&&_, not}
+use mathlib.Core.Path.{_≡_, sym, ap, _∙_}
+use mathlib.Core.Bool.{Bool, true, false, not}
 use Prim.Native.Nat.{ℕ, _≤_, _<_}
 use native.Mathlib.Omega.{arith}
-use lib.ListN.{length}
 use lib.Seq.{set-out}
 use lib.Dec.{ltb}
 use borrow.Author.Tests.{ltb-true, ltb-false}
 use Rattle.lines.specs.Logic.{oneIf}
 use Rattle.lines.specs.Lists.{filter, count}
 use Rattle.lines.specs.Lines.{members}
-use Rattle.lines.proofs.Laws.Logic.{by-test, by-eq, never, and-left, and-in}
+use Rattle.lines.proofs.Laws.Logic.{by-test, and-left, and-in}
 use Rattle.lines.proofs.Laws.Lists
 use Rattle.lines.proofs.Laws.Bests
 use Rattle.scheduler.specs.declared.thread.Thread.{Thread}
 use Rattle.scheduler.specs.declared.thread.Place.{Place}
 use Rattle.scheduler.specs.declared.Scheduler.{Scheduler}
-use Rattle.scheduler.specs.Threads.{noThread, readyb, markedb, standsb, placedb}
+use Rattle.scheduler.specs.Threads.{noThread, readyb, markedb, placedb}
 use Rattle.scheduler.specs.Orders.{threadAt, priorityAt, thresholdAt, runner, lineAt, withThread, withRunner}
 use Rattle.scheduler.specs.Choice.{bestAmong, bestReady, bestMarked, staysb, overtakesb, withMark, replaced, ran, rescheduled}
 use Rattle.scheduler.specs.Sound.{fitb, Steady, Runs, Sound}
-use Rattle.scheduler.proofs.Laws.Threads.{none-at, none-ready, ready-stands, marked-ready, fit-low, fit-threshold, fit-mark, fit-unmark, mark-ready, mark-stands, mark-placed, mark-priority, mark-threshold, mark-marked}
+use Rattle.scheduler.proofs.Laws.Threads.{none-at, ready-stands, marked-ready, fit-low, fit-threshold, fit-mark, fit-unmark, mark-ready, mark-stands, mark-placed, mark-priority, mark-threshold, mark-marked}
 use Rattle.scheduler.proofs.Laws.Orders
 use Rattle.scheduler.proofs.Laws.Choice.{is-replaced, goes-on, best-follows, marked-follows}
 

@@ -1,24 +1,24 @@
 -- A thread gets another record and joins the end or the front of its order, or stays: what stands in each order afterwards.
 use mathlib.Core.Path.{_≡_, refl, sym, ap, _∙_}
-use mathlib.Core.List.{List, [], _∷_, _++_, append-nil}
+use mathlib.Core.List.{List, _++_}
 use mathlib.Core.Bool.{Bool, true, false, _&&_}
 use Prim.Native.Nat.{ℕ, _+_, _≤_, _<_}
 use native.Mathlib.Omega.{arith}
-use lib.ListN.{length, getD, set, length-set}
-use lib.Seq.{getD-set-same, getD-set-other, set-out}
+use lib.ListN.{length, length-set}
+use lib.Seq.{getD-set-same, getD-set-other}
 use lib.Dec.{ltb}
-use borrow.Author.Tests.{ltb-true, ltb-false, lt-ltb, le-ltb}
+use borrow.Author.Tests.{ltb-true, ltb-false}
 use Rattle.lines.specs.Logic.{oneIf}
-use Rattle.lines.specs.Lists.{filter, without, onlyIf, count, first, bestOf, prioritised}
-use Rattle.lines.specs.Lines.{members, lineOf}
-use Rattle.lines.proofs.Laws.Logic.{by-test, by-eq, never, one-at-most, and-twice}
+use Rattle.lines.specs.Lists.{filter, without, onlyIf, count, bestOf, prioritised}
+use Rattle.lines.specs.Lines.{members}
+use Rattle.lines.proofs.Laws.Logic.{by-test, by-eq, never, one-at-most}
 use Rattle.lines.proofs.Laws.Lists
 use Rattle.lines.proofs.Laws.Bests
 use Rattle.lines.proofs.Laws.Lines.{members-short, lineOf-clean}
 use Rattle.scheduler.specs.declared.thread.Thread.{Thread}
 use Rattle.scheduler.specs.declared.thread.Place.{Place}
 use Rattle.scheduler.specs.declared.Scheduler.{Scheduler}
-use Rattle.scheduler.specs.Threads.{noThread, standsb, placedb, numberOf}
+use Rattle.scheduler.specs.Threads.{noThread, standsb, placedb}
 use Rattle.scheduler.specs.Orders.{threadAt, priorityAt, lineAt, withThread, withOrder, moved, movedFront, keyAt, prioritisedAt}
 use Rattle.scheduler.specs.Sound.{fitb, Steady}
 use Rattle.scheduler.proofs.Laws.Threads.{none-at, none-stands, placed-stands, other-place}

@@ -36,6 +36,10 @@ pub none-ready : readyb noThread ≡ false
 unfolding readyb noThread
 none-ready = refl
 
+pub none-unmarked : noThread .marked ≡ false
+unfolding noThread
+none-unmarked = refl
+
 pub none-placed : (p : Place) → placedb p noThread ≡ false
 unfolding placedb standsb readyb waitsb noThread
 none-placed p = refl
@@ -126,10 +130,11 @@ limits-in th a b c =
 limits-out : (th : Thread) → limitsb th ≡ true → (th .state ≤ 8) × (th .priority < 32) × (th .threshold ≤ th .priority)
 unfolding limitsb
 limits-out th h =
-    let w = and-left (leb (th .state) 8 && ltb (th .priority) 32) (leb (th .threshold) (th .priority)) h in
-    (leb-true (th .state) 8 (and-left (leb (th .state) 8) (ltb (th .priority) 32) w),
+    let w = and-left (leb (th .state) 8 && ltb (th .priority) 32) (leb (th .threshold) (th .priority)) h in (
+      leb-true (th .state) 8 (and-left (leb (th .state) 8) (ltb (th .priority) 32) w),
       ltb-true (th .priority) 32 (and-right (leb (th .state) 8) (ltb (th .priority) 32) w),
-      leb-true (th .threshold) (th .priority) (and-right (leb (th .state) 8 && ltb (th .priority) 32) (leb (th .threshold) (th .priority)) h))
+      leb-true (th .threshold) (th .priority) (and-right (leb (th .state) 8 && ltb (th .priority) 32) (leb (th .threshold) (th .priority)) h),
+    )
 
 zero-levels : (th : Thread) → zerob th ≡ true → (th .state ≤ 8) × (th .priority < 32) × (th .threshold ≤ th .priority)
 unfolding zerob
@@ -249,3 +254,8 @@ module _ (p h : ℕ) (th : Thread) where
       (and-left (readyb th) (ltb (th .threshold) (th .priority)) (implies-out (th .marked) (readyb th && ltb (th .threshold) (th .priority)) (q .1) (and-left (th .marked) (ltb h p) m)))
       (and-right (th .marked) (ltb h p) m)))
       (q .2) (q .3) (q .4)
+
+-- with the priority it had, a thread stands where it stood
+pub same-levels-placed : (h : ℕ) (th : Thread) (q : Place) → placedb q (withLevels (th .priority) h th) ≡ placedb q th
+unfolding withLevels placedb standsb numberOf readyb waitsb
+same-levels-placed h th q = refl

@@ -2,8 +2,7 @@ use mathlib.Core.Path.{_≡_, sym, ap, ap₂, _∙_}
 use Prim.Native.Nat.{ℕ, _<_, _≤_, _-_}
 use native.Mathlib.Omega.{arith}
 use borrow.Author.Needs.{needs}
-use lib.ListN.{length, take, drop, getD}
-use lib.ListN.{length-take, List·getD-eq-default}
+use lib.ListN.{length, take, drop, getD, length-take, List·getD-eq-default}
 use Rattle.lines.specs.declared.Best.{Best}
 use Rattle.lines.specs.Lists.{filter, first, leastOf, bestOf, firstOfKey, firstWith}
 use Rattle.lines.specs.Lines.{members, keyIn, betterOf, bestWithKey}

@@ -4,14 +4,12 @@ use mathlib.Core.Bool.{Bool, true, false}
 use Prim.Native.Nat.{ℕ, _<_, _≤_, _+_, _-_}
 use native.Mathlib.Omega.{arith}
 use borrow.Author.Needs.{needs}
-use lib.ListN.{length, take, getD, set}
-use lib.ListN.{length-set}
+use lib.ListN.{length, take, getD, set, length-set, replicate}
 use Rattle.lines.specs.declared.Line.{Line}
 use Rattle.lines.specs.Logic.{if_then_else_}
 use Rattle.lines.specs.Lists.{filter, without, onlyIf}
 use Rattle.lines.specs.Lines.{members, pad, lineOf}
 use Rattle.lines.proofs.Laws.Lines.{members-take, length-members, full, one-more, gather-keep, gather-skip}
-use lib.ListN.{replicate}
 use Rattle.lines.proofs.Line.gathered.Statement.{statement}
 use Rattle.lines.proofs.Line.gathered.Tie as tie
 

@@ -1,11 +1,10 @@
 use mathlib.Core.Path.{_≡_, refl, ap, _∙_}
-use mathlib.Core.Bool.{Bool}
+use mathlib.Core.Bool.{Bool, _&&_, _||_}
 use Prim.Native.Nat.{_≤_, _-_}
 use native.Mathlib.Omega.{arith}
 use borrow.Author.Needs.{needs}
 use lib.ListN.{length, getD}
 use lib.Dec.{eqb, ltb}
-use mathlib.Core.Bool.{_&&_, _||_}
 use Rattle.lines.specs.Logic.{allBelow}
 use Rattle.lines.specs.Lines.{cleanb}
 use Rattle.lines.proofs.Laws.Logic.{all-more}

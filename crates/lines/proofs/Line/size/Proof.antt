@@ -2,8 +2,7 @@ use mathlib.Core.Path.{_≡_}
 use Prim.Native.Nat.{_-_}
 use native.Mathlib.Omega.{arith}
 use borrow.Author.Needs.{needs}
-use lib.ListN.{length}
-use lib.ListN.{length-take}
+use lib.ListN.{length, length-take}
 use Rattle.lines.specs.Lines.{members}
 use Rattle.lines.proofs.Line.size.Statement.{statement}
 use Rattle.lines.proofs.Line.size.Tie as tie

@@ -3,8 +3,7 @@ use mathlib.Core.List.{List}
 use Prim.Native.Nat.{ℕ, _<_, _≤_, _-_}
 use native.Mathlib.Omega.{arith}
 use borrow.Author.Needs.{needs}
-use lib.ListN.{length, take, drop, getD}
-use lib.ListN.{length-take, length-drop}
+use lib.ListN.{length, take, drop, getD, length-take, length-drop}
 use Rattle.lines.specs.Lines.{members, tally}
 use Rattle.lines.proofs.Laws.Lines.{members-take, length-members, back, back-start}
 use Rattle.lines.proofs.Laws.Tallies.{slot-small, tally-small}

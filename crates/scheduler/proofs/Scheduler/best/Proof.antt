@@ -2,8 +2,7 @@ use mathlib.Core.Path.{_≡_, ap, _∙_}
 use Prim.Native.Nat.{ℕ, _<_, _≤_, _-_}
 use native.Mathlib.Omega.{arith}
 use borrow.Author.Needs.{needs}
-use lib.ListN.{length, take, drop, getD}
-use lib.ListN.{length-take}
+use lib.ListN.{length, take, drop, getD, length-take}
 use Rattle.lines.specs.declared.Best.{Best}
 use Rattle.lines.specs.Lists.{filter, first, firstWith, leastOf, bestOf, firstOfKey}
 use Rattle.lines.specs.Lines.{members, bestWithKey}

@@ -3,8 +3,7 @@ use mathlib.Core.Bool.{Bool, true, false}
 use Prim.Native.Nat.{ℕ, _≤_, _-_}
 use native.Mathlib.Omega.{arith}
 use borrow.Author.Needs.{needs}
-use lib.ListN.{length, take, drop, getD}
-use lib.ListN.{length-take}
+use lib.ListN.{length, take, drop, getD, length-take}
 use Rattle.lines.specs.Lists.{filter, first, firstWith}
 use Rattle.lines.specs.Lines.{members}
 use Rattle.lines.proofs.Laws.Lists.{getD-any}

@@ -2,9 +2,8 @@ use mathlib.Core.Path.{_≡_, refl, sym, ap, _∙_}
 use Prim.Native.Nat.{_≤_, _-_}
 use native.Mathlib.Omega.{arith}
 use borrow.Author.Needs.{needs}
-use lib.ListN.{length, take}
+use lib.ListN.{length, take, length-set}
 use mathlib.Core.List.{map}
-use lib.ListN.{length-set}
 use lib.Seq.{take-all}
 use Rattle.scheduler.specs.Orders.{keyAt, keysAt}
 use Rattle.scheduler.proofs.Laws.Threads.{length-mapped}

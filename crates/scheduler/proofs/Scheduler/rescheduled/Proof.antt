@@ -1,9 +1,8 @@
 use mathlib.Core.Path.{sym, ap, ap₂, _∙_}
-use mathlib.Core.Bool.{Bool}
+use mathlib.Core.Bool.{Bool, _&&_, not}
 use Prim.Native.Nat.{_-_}
 use borrow.Author.Needs.{needs}
 use borrow.Author.Tests.{lt-ltb, le-ltb}
-use mathlib.Core.Bool.{_&&_, not}
 use Rattle.scheduler.specs.Orders.{threadAt}
 use Rattle.scheduler.specs.Choice.{bestMarked, replaced, ran, relinquished}
 use Rattle.scheduler.proofs.Laws.Choice.{is-replaced, goes-on, best-follows, marked-follows, stays-from, overtakes-from}

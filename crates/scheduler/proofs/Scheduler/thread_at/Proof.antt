@@ -2,8 +2,7 @@ use mathlib.Core.Path.{_≡_, sym, _∙_}
 use Prim.Native.Nat.{_<_, _≤_, _-_}
 use native.Mathlib.Omega.{arith}
 use borrow.Author.Needs.{needs}
-use lib.ListN.{length}
-use lib.ListN.{List·getD-eq-default}
+use lib.ListN.{length, List·getD-eq-default}
 use Rattle.lines.proofs.Laws.Lists.{getD-any}
 use Rattle.scheduler.specs.Threads.{noThread}
 use Rattle.scheduler.specs.Orders.{threadAt}

@@ -1,0 +1,60 @@
+-- What is proved of the scheduler's definitions, in one record. Its proof is `claims` of proofs/Laws/Claims.antt.
+use mathlib.Core.Path.{_≡_}
+use mathlib.Core.List.{List, _∷_, _++_}
+use mathlib.Core.Bool.{Bool, true, false}
+use Prim.Native.Nat.{ℕ, _<_, _≤_}
+use lib.ListN.{length}
+use Rattle.lines.specs.Logic.{oneIf}
+use Rattle.lines.specs.Lists.{nobody, worst, without, onlyIf, count, prioritised, Begins}
+use Rattle.scheduler.specs.declared.thread.Thread.{Thread}
+use Rattle.scheduler.specs.declared.thread.Place.{Place}
+use Rattle.scheduler.specs.declared.Scheduler.{Scheduler}
+use Rattle.scheduler.specs.Threads.{standsb, placedb}
+use Rattle.scheduler.specs.Orders.{threadAt, priorityAt, runner, lineAt, firstAt, withThread, started, moved, movedFront, prioritisedAt}
+use Rattle.scheduler.specs.Choice.{rescheduled, relinquished}
+use Rattle.scheduler.specs.Changes.{priorityChanged, preemptionChanged}
+use Rattle.scheduler.specs.Sound.{fitb, soundb, Steady, Sound}
+
+pub record Claims : Type 0 where
+  -- ---- soundness
+  -- the test passes exactly the sound tables
+  pub testSound : (s : Scheduler) → length (s .threads) ≡ 32 → soundb s ≡ true → Sound s
+  pub soundTest : (s : Scheduler) → Sound s → soundb s ≡ true
+  pub startSound : Sound started
+  -- a thread stands once in the order of its own place, and in no other
+  pub standsOnce : (s : Scheduler) → Steady s → (t : ℕ) (p : Place) → count t (lineAt s p) ≡ oneIf (placedb p (threadAt s t))
+  -- moves of a thread to a fit record, and the changes of a created thread, keep all but the runner's clause
+  pub movedSteady : (s : Scheduler) → Steady s → (t : ℕ) (th : Thread) → t < nobody → fitb th ≡ true → Steady (moved s t th)
+  pub frontSteady : (s : Scheduler) → Steady s → (t : ℕ) (th : Thread) → t < nobody → fitb th ≡ true → Steady (movedFront s t th)
+  pub keptSteady : (s : Scheduler) → Steady s → (t : ℕ) (th : Thread) → t < nobody → fitb th ≡ true → standsb th ≡ standsb (threadAt s t) → Steady (withThread s t th)
+  pub prioritisedSteady : (s : Scheduler) → Steady s → (p : Place) → Steady (prioritisedAt s p)
+  pub prioritySteady : (s : Scheduler) → Steady s → (t p : ℕ) → t < nobody → threadAt s t .created ≡ true → p < worst → Steady (priorityChanged s t p)
+  pub preemptionSteady : (s : Scheduler) → Steady s → (t h : ℕ) → t < nobody → threadAt s t .created ≡ true → h ≤ priorityAt s t → Steady (preemptionChanged s t h)
+  -- the choice that follows makes the tables sound
+  pub choiceSound : (s : Scheduler) → Steady s → (b : Bool) → Sound (rescheduled s b)
+  pub relinquishSound : (s : Scheduler) → Sound s → runner s < nobody → Sound (relinquished s)
+  -- ---- the order of every place after a move
+  pub movedLine : (s : Scheduler) → Steady s → (t : ℕ) (th : Thread) → t < nobody → fitb th ≡ true
+      → (p : Place) → lineAt (moved s t th) p ≡ without t (lineAt s p) ++ onlyIf (placedb p th) t
+  pub frontLine : (s : Scheduler) → Steady s → (t : ℕ) (th : Thread) → t < nobody → fitb th ≡ true
+      → (p : Place) → lineAt (movedFront s t th) p ≡ onlyIf (placedb p th) t ++ without t (lineAt s p)
+  -- a record that changes in place
+  pub keptLine : (s : Scheduler) → Steady s → (t : ℕ) (th : Thread) → t < nobody
+      → (p : Place) → placedb p th ≡ placedb p (threadAt s t) → lineAt (withThread s t th) p ≡ lineAt s p
+  -- prioritise moves the first of the best priority to the front of its place, and nothing else
+  pub prioritisedHere : (s : Scheduler) → Steady s → (p : Place) → lineAt (prioritisedAt s p) p ≡ prioritised (priorityAt s) (lineAt s p)
+  pub prioritisedElsewhere : (s : Scheduler) → Steady s → (p q : Place) → (q ≡ p → ⊥) → lineAt (prioritisedAt s p) q ≡ lineAt s q
+  -- the choice moves nobody
+  pub choiceLine : (s : Scheduler) → Steady s → (b : Bool) (p : Place) → lineAt (rescheduled s b) p ≡ lineAt s p
+  -- ---- first come, first served: an order that begins with r still does, less the moved thread
+  -- after a move to the end of any place, or out of every order
+  pub movedBegins : (s : Scheduler) → Steady s → (p : Place) (r : List ℕ) → Begins r (lineAt s p)
+      → (t : ℕ) (th : Thread) → t < nobody → fitb th ≡ true → Begins (without t r) (lineAt (moved s t th) p)
+  -- after a move to the front of another place
+  pub frontBegins : (s : Scheduler) → Steady s → (p : Place) (r : List ℕ) → Begins r (lineAt s p)
+      → (t : ℕ) (th : Thread) → t < nobody → fitb th ≡ true → placedb p th ≡ false → Begins (without t r) (lineAt (movedFront s t th) p)
+  -- who leaves a place stands there no more
+  pub movedGone : (s : Scheduler) → Steady s → (p : Place) → (t : ℕ) (th : Thread) → t < nobody → fitb th ≡ true → placedb p th ≡ false → count t (lineAt (moved s t th) p) ≡ 0
+  -- the first of the beginning is the first of the place, and when it moves on the rest begins the order
+  pub firstServed : (s : Scheduler) → Steady s → (p : Place) (x : ℕ) (r : List ℕ) → Begins (x ∷ r) (lineAt s p)
+      → (firstAt s p ≡ x) × ((th : Thread) → x < nobody → fitb th ≡ true → Begins r (lineAt (moved s x th) p))
