@@ -1,0 +1,12 @@
+use mathlib.Core.Path.{refl}
+use Prim.Native.Nat.{_-_}
+use Rattle.objects.specs.Semaphores.{noSemaphore}
+use Rattle.objects.proofs.semaphore.Semaphore.none.Statement.{statement}
+use Rattle.objects.proofs.semaphore.Semaphore.none.Tie as tie
+
+returns : tie.Need-returns
+unfolding noSemaphore
+returns c = refl
+
+pub none-spec : {M : Type 1} → statement M
+none-spec = tie.close (tie.spec returns)

@@ -1,0 +1,4 @@
+pub mod Semaphores
+pub mod Queues
+pub mod Groups
+pub mod Pools
