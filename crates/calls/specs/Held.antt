@@ -1,0 +1,24 @@
+-- What a thread holds: the status and words that its last wait left it, and what it waits for.
+use mathlib.Core.List.{List, _∷_}
+use mathlib.Core.Bool.{false}
+use Prim.Native.Nat.{ℕ}
+use lib.ListN.{replicate}
+use Rattle.calls.specs.declared.held.Held.{Held}
+
+-- sixteen zero words, and those with word 0 or words 0 and 1 given
+abbrev pub noWords : List ℕ
+noWords = replicate 16 0
+
+abbrev pub oneWord : ℕ → List ℕ
+oneWord w = w ∷ replicate 15 0
+
+abbrev pub twoWords : ℕ → ℕ → List ℕ
+twoWords v w = v ∷ w ∷ replicate 14 0
+
+-- a status and words, and nothing waited for
+unfoldable pub holding : ℕ → List ℕ → Held
+holding status words = record { status = status; words = words; sending = false; front = false; request = 0; option = 0; message = noWords }
+
+-- what create, finish, terminate and reset leave: nothing held
+abbrev pub noHeld : Held
+noHeld = holding 0 noWords

@@ -1,0 +1,4 @@
+pub mod Statuses
+pub mod Held
+pub mod Calls
+pub mod Refusals

@@ -1,0 +1,141 @@
+-- "Statuses": for each call the first reason that refuses it, read down 01's table and then left to right; 0 where there is none.
+use mathlib.Core.Bool.{Bool, _&&_, _||_, not}
+use Prim.Native.Nat.{ℕ}
+use lib.Dec.{eqb, ltb, leb}
+use Rattle.lines.specs.Logic.{if_then_else_}
+use Rattle.scheduler.specs.declared.thread.Thread.{Thread}
+use Rattle.scheduler.specs.Threads.{completed, terminated, suspended, pausedb}
+use Rattle.objects.specs.declared.semaphore.Semaphore.{Semaphore}
+use Rattle.calls.specs.Calls.{interrupt, thread}
+use Rattle.calls.specs.Statuses
+
+-- no reason where the test holds, else the status
+unfoldable pub unless : Bool → ℕ → ℕ
+unless b status = if b then 0 else status
+
+-- the first reason of two
+unfoldable pub firstOf : ℕ → ℕ → ℕ
+firstOf a b = if eqb a 0 then b else a
+
+-- caller kinds: S start-up and threads, T threads, I interrupts
+abbrev pub allowsS : ℕ → Bool
+allowsS caller = not (eqb caller interrupt)
+
+abbrev pub allowsT : ℕ → Bool
+allowsT caller = eqb caller thread
+
+abbrev pub allowsI : ℕ → Bool
+allowsI caller = eqb caller interrupt
+
+-- completed or terminated
+abbrev pub finishedb : Thread → Bool
+finishedb th = eqb (th .state) completed || eqb (th .state) terminated
+
+-- a wait is for threads only
+abbrev pub mayWaitb : ℕ → ℕ → Bool
+mayWaitb wait caller = eqb wait 0 || eqb caller thread
+
+-- ---- threads: t is the number, th its record
+-- 1 create: 0E 0F 18 10 13
+unfoldable pub createRefusal : ℕ → Thread → ℕ → ℕ → ℕ → ℕ → ℕ
+createRefusal t th p h start caller =
+    firstOf (unless (ltb t 32 && not (th .created)) Statuses.threadError)
+    (firstOf (unless (ltb p 32) Statuses.priorityError)
+    (firstOf (unless (leb h p) Statuses.threshError)
+    (firstOf (unless (ltb start 2) Statuses.startError)
+    (unless (allowsS caller) Statuses.callerError))))
+
+-- 2 delete: 0E 13 11
+unfoldable pub deleteRefusal : Thread → ℕ → ℕ
+deleteRefusal th caller =
+    firstOf (unless (th .created) Statuses.threadError)
+    (firstOf (unless (allowsT caller) Statuses.callerError)
+    (unless (finishedb th) Statuses.deleteError))
+
+-- 3 resume: 0E 12
+unfoldable pub resumeRefusal : Thread → ℕ
+resumeRefusal th =
+    firstOf (unless (th .created) Statuses.threadError)
+    (unless (eqb (th .state) suspended || th .suspending) Statuses.resumeError)
+
+-- 4 suspend: 0E 14
+unfoldable pub suspendRefusal : Thread → ℕ
+suspendRefusal th =
+    firstOf (unless (th .created) Statuses.threadError)
+    (unless (not (finishedb th)) Statuses.suspendError)
+
+-- 5 terminate: 0E 13
+unfoldable pub terminateRefusal : Thread → ℕ → ℕ
+terminateRefusal th caller =
+    firstOf (unless (th .created) Statuses.threadError)
+    (unless (allowsT caller) Statuses.callerError)
+
+-- 6 reset: 0E 13 20
+unfoldable pub resetRefusal : Thread → ℕ → ℕ
+resetRefusal th caller =
+    firstOf (unless (th .created) Statuses.threadError)
+    (firstOf (unless (allowsT caller) Statuses.callerError)
+    (unless (finishedb th) Statuses.notDone))
+
+-- 7 finish, 8 relinquish, 9 sleep: 13
+unfoldable pub threadOnlyRefusal : ℕ → ℕ
+threadOnlyRefusal caller = unless (allowsT caller) Statuses.callerError
+
+-- 10 wait abort: 0E 1B
+unfoldable pub abortRefusal : Thread → ℕ
+abortRefusal th =
+    firstOf (unless (th .created) Statuses.threadError)
+    (unless (pausedb th) Statuses.waitAbortError)
+
+-- 11 priority change: 0E 0F 13
+unfoldable pub priorityRefusal : Thread → ℕ → ℕ → ℕ
+priorityRefusal th p caller =
+    firstOf (unless (th .created) Statuses.threadError)
+    (firstOf (unless (ltb p 32) Statuses.priorityError)
+    (unless (allowsT caller) Statuses.callerError))
+
+-- 12 preemption change: 0E 18 13, the threshold against the thread's present priority
+unfoldable pub preemptionRefusal : Thread → ℕ → ℕ → ℕ
+preemptionRefusal th h caller =
+    firstOf (unless (th .created) Statuses.threadError)
+    (firstOf (unless (leb h (th .priority)) Statuses.threshError)
+    (unless (allowsT caller) Statuses.callerError))
+
+-- 15 tick: 13
+unfoldable pub tickRefusal : ℕ → ℕ
+tickRefusal caller = unless (allowsI caller) Statuses.callerError
+
+-- 38, 39 reads: 0E
+unfoldable pub readRefusal : Thread → ℕ
+readRefusal th = unless (th .created) Statuses.threadError
+
+-- ---- semaphores: n is the number, x its record
+-- 16 create: 0C 13
+unfoldable pub semaphoreCreateRefusal : ℕ → Semaphore → ℕ → ℕ
+semaphoreCreateRefusal n x caller =
+    firstOf (unless (ltb n 16 && not (x .created)) Statuses.semaphoreError)
+    (unless (allowsS caller) Statuses.callerError)
+
+-- 17 delete: 0C 13
+unfoldable pub semaphoreDeleteRefusal : Semaphore → ℕ → ℕ
+semaphoreDeleteRefusal x caller =
+    firstOf (unless (x .created) Statuses.semaphoreError)
+    (unless (allowsT caller) Statuses.callerError)
+
+-- 18 get: 0C 04 0D
+unfoldable pub semaphoreGetRefusal : Semaphore → ℕ → ℕ → ℕ
+semaphoreGetRefusal x wait caller =
+    firstOf (unless (x .created) Statuses.semaphoreError)
+    (firstOf (unless (mayWaitb wait caller) Statuses.waitError)
+    (unless (ltb 0 wait || ltb 0 (x .count)) Statuses.noInstance))
+
+-- 19 put, 21 prioritise: 0C
+unfoldable pub semaphoreRefusal : Semaphore → ℕ
+semaphoreRefusal x = unless (x .created) Statuses.semaphoreError
+
+-- 20 ceiling put: 0C 22 21
+unfoldable pub ceilingRefusal : Semaphore → ℕ → ℕ
+ceilingRefusal x ceiling =
+    firstOf (unless (x .created) Statuses.semaphoreError)
+    (firstOf (unless (ltb 0 ceiling) Statuses.invalidCeiling)
+    (unless (ltb (x .count) ceiling) Statuses.ceilingExceeded))

@@ -1,0 +1,104 @@
+// A call, decoded from its number and arguments.
+ghost use mathlib.Core.Path.{_≡_};
+ghost use Prim.Native.Nat.{min};
+ghost use Rattle.calls.specs.Calls.{decoded};
+use lines::ThreadId;
+use objects::semaphore::SemaphoreId;
+
+pub const STARTUP: u32 = 0;
+
+pub const INTERRUPT: u32 = 1;
+
+pub const THREAD: u32 = 2;
+
+// A known call with its arguments, by ThreadX's service names.
+pub enum Call {
+    ThreadCreate(ThreadId, u32, u32, u32),
+    ThreadDelete(ThreadId),
+    ThreadResume(ThreadId),
+    ThreadSuspend(ThreadId),
+    ThreadTerminate(ThreadId),
+    ThreadReset(ThreadId),
+    ThreadFinish,
+    ThreadRelinquish,
+    ThreadSleep(u32),
+    ThreadWaitAbort(ThreadId),
+    ThreadPriorityChange(ThreadId, u32),
+    ThreadPreemptionChange(ThreadId, u32),
+    TimeGet,
+    TimeSet(u32),
+    Tick,
+    SemaphoreCreate(SemaphoreId, u32),
+    SemaphoreDelete(SemaphoreId),
+    SemaphoreGet(SemaphoreId, u32),
+    SemaphorePut(SemaphoreId),
+    SemaphoreCeilingPut(SemaphoreId, u32),
+    SemaphorePrioritize(SemaphoreId),
+    ThreadStateRead(ThreadId),
+    ThreadWordsRead(ThreadId),
+}
+
+// A call record is either a known call or a refusal.
+pub enum Decoded {
+    Known(Call),
+    Unknown,
+}
+
+// A thread's number; every number past the last stands for nobody.
+pub fn thread_id(a: u32) -> ThreadId
+    ensures { λ r. ⌜ r .0 ≡ min a 32 ⌝ }
+{
+    if a < 32 {
+        ThreadId(a as u8)
+    } else {
+        ThreadId(32)
+    }
+}
+
+// A semaphore's number; every number past the last stands for none.
+pub fn semaphore_id(a: u32) -> SemaphoreId
+    ensures { λ r. ⌜ r .0 ≡ min a 16 ⌝ }
+{
+    if a < 16 {
+        SemaphoreId(a as u8)
+    } else {
+        SemaphoreId(16)
+    }
+}
+
+// The call of a number, a caller kind and four arguments.
+pub fn decode(number: u32, caller: u32, a: u32, b: u32, c: u32, d: u32) -> Decoded
+    ensures { λ r. ⌜ r ≡ decoded number caller a b c d ⌝ }
+{
+    if THREAD < caller {
+        return Decoded::Unknown;
+    }
+    let t = thread_id(a);
+    let s = semaphore_id(a);
+    match number {
+        1 => Decoded::Known(Call::ThreadCreate(t, b, c, d)),
+        2 => Decoded::Known(Call::ThreadDelete(t)),
+        3 => Decoded::Known(Call::ThreadResume(t)),
+        4 => Decoded::Known(Call::ThreadSuspend(t)),
+        5 => Decoded::Known(Call::ThreadTerminate(t)),
+        6 => Decoded::Known(Call::ThreadReset(t)),
+        7 => Decoded::Known(Call::ThreadFinish),
+        8 => Decoded::Known(Call::ThreadRelinquish),
+        9 => Decoded::Known(Call::ThreadSleep(a)),
+        10 => Decoded::Known(Call::ThreadWaitAbort(t)),
+        11 => Decoded::Known(Call::ThreadPriorityChange(t, b)),
+        12 => Decoded::Known(Call::ThreadPreemptionChange(t, b)),
+        13 => Decoded::Known(Call::TimeGet),
+        14 => Decoded::Known(Call::TimeSet(a)),
+        15 => Decoded::Known(Call::Tick),
+        16 => Decoded::Known(Call::SemaphoreCreate(s, b)),
+        17 => Decoded::Known(Call::SemaphoreDelete(s)),
+        18 => Decoded::Known(Call::SemaphoreGet(s, b)),
+        19 => Decoded::Known(Call::SemaphorePut(s)),
+        20 => Decoded::Known(Call::SemaphoreCeilingPut(s, b)),
+        21 => Decoded::Known(Call::SemaphorePrioritize(s)),
+        38 => Decoded::Known(Call::ThreadStateRead(t)),
+        39 => Decoded::Known(Call::ThreadWordsRead(t)),
+        _ => Decoded::Unknown,
+    }
+}

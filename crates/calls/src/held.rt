@@ -1,0 +1,31 @@
+// What a thread holds beside its scheduling record: the status and words that its last wait left it, and what it waits for.
+ghost use mathlib.Core.Path.{_≡_};
+ghost use Rattle.calls.specs.Held.{holding};
+
+// `sending`, `front` and `message` are a waiting sender's, `request` and `option` those of a thread that waits for flags.
+pub struct Held {
+    pub status: u32,
+    pub words: [u32; 16],
+    pub sending: bool,
+    pub front: bool,
+    pub request: u32,
+    pub option: u8,
+    pub message: [u32; 16],
+}
+
+impl Held {
+    // A status and words, and nothing waited for.
+    pub fn of(status: u32, words: [u32; 16]) -> Held
+        ensures { λ r. ⌜ r ≡ holding status words ⌝ }
+    {
+        Held {
+            status,
+            words,
+            sending: false,
+            front: false,
+            request: 0,
+            option: 0,
+            message: [0; 16],
+        }
+    }
+}

@@ -1,0 +1,225 @@
+// For each call the first reason that refuses it, in the order of the papers' table; 0 where there is none.
+ghost use mathlib.Core.Path.{_≡_};
+ghost use Rattle.calls.specs.Refusals.{unless, firstOf, createRefusal, deleteRefusal, resumeRefusal, suspendRefusal, terminateRefusal, resetRefusal, threadOnlyRefusal, abortRefusal, priorityRefusal, preemptionRefusal, tickRefusal, readRefusal, semaphoreCreateRefusal, semaphoreDeleteRefusal, semaphoreGetRefusal, semaphoreRefusal, ceilingRefusal};
+use super::call::INTERRUPT;
+use super::call::THREAD;
+use super::status::CALLER_ERROR;
+use super::status::CEILING_EXCEEDED;
+use super::status::DELETE_ERROR;
+use super::status::INVALID_CEILING;
+use super::status::NO_INSTANCE;
+use super::status::NOT_DONE;
+use super::status::PRIORITY_ERROR;
+use super::status::RESUME_ERROR;
+use super::status::SEMAPHORE_ERROR;
+use super::status::START_ERROR;
+use super::status::SUSPEND_ERROR;
+use super::status::THREAD_ERROR;
+use super::status::THRESH_ERROR;
+use super::status::WAIT_ABORT_ERROR;
+use super::status::WAIT_ERROR;
+use lines::ThreadId;
+use objects::semaphore::Semaphore;
+use objects::semaphore::SemaphoreId;
+use scheduler::thread::COMPLETED;
+use scheduler::thread::SUSPENDED;
+use scheduler::thread::TERMINATED;
+use scheduler::thread::Thread;
+
+// No reason where `fine` holds, else the status.
+fn unless(fine: bool, status: u32) -> u32
+    ensures { λ r. ⌜ r ≡ unless fine status ⌝ }
+{
+    if fine { 0 } else { status }
+}
+
+// The first reason of two.
+fn first(a: u32, b: u32) -> u32
+    ensures { λ r. ⌜ r ≡ firstOf a b ⌝ }
+{
+    if a == 0 { b } else { a }
+}
+
+pub fn create(
+    t: ThreadId,
+    th: Thread,
+    priority: u32,
+    threshold: u32,
+    start: u32,
+    caller: u32,
+) -> u32
+    ensures { λ r. ⌜ r ≡ createRefusal (t .0) th priority threshold start caller ⌝ }
+{
+    first(
+        unless((t.0 < 32) & !th.created, THREAD_ERROR),
+        first(
+            unless(priority < 32, PRIORITY_ERROR),
+            first(
+                unless(threshold <= priority, THRESH_ERROR),
+                first(
+                    unless(start < 2, START_ERROR),
+                    unless(!(caller == INTERRUPT), CALLER_ERROR),
+                ),
+            ),
+        ),
+    )
+}
+
+pub fn delete(th: Thread, caller: u32) -> u32
+    ensures { λ r. ⌜ r ≡ deleteRefusal th caller ⌝ }
+{
+    first(
+        unless(th.created, THREAD_ERROR),
+        first(
+            unless(caller == THREAD, CALLER_ERROR),
+            unless(
+                (th.state == COMPLETED) | (th.state == TERMINATED),
+                DELETE_ERROR,
+            ),
+        ),
+    )
+}
+
+pub fn resume(th: Thread) -> u32
+    ensures { λ r. ⌜ r ≡ resumeRefusal th ⌝ }
+{
+    first(
+        unless(th.created, THREAD_ERROR),
+        unless((th.state == SUSPENDED) | th.suspending, RESUME_ERROR),
+    )
+}
+
+pub fn suspend(th: Thread) -> u32
+    ensures { λ r. ⌜ r ≡ suspendRefusal th ⌝ }
+{
+    first(
+        unless(th.created, THREAD_ERROR),
+        unless(
+            !((th.state == COMPLETED) | (th.state == TERMINATED)),
+            SUSPEND_ERROR,
+        ),
+    )
+}
+
+pub fn terminate(th: Thread, caller: u32) -> u32
+    ensures { λ r. ⌜ r ≡ terminateRefusal th caller ⌝ }
+{
+    first(
+        unless(th.created, THREAD_ERROR),
+        unless(caller == THREAD, CALLER_ERROR),
+    )
+}
+
+pub fn reset(th: Thread, caller: u32) -> u32
+    ensures { λ r. ⌜ r ≡ resetRefusal th caller ⌝ }
+{
+    first(
+        unless(th.created, THREAD_ERROR),
+        first(
+            unless(caller == THREAD, CALLER_ERROR),
+            unless((th.state == COMPLETED) | (th.state == TERMINATED), NOT_DONE),
+        ),
+    )
+}
+
+// Finish, relinquish and sleep.
+pub fn thread_only(caller: u32) -> u32
+    ensures { λ r. ⌜ r ≡ threadOnlyRefusal caller ⌝ }
+{
+    unless(caller == THREAD, CALLER_ERROR)
+}
+
+pub fn abort(th: Thread) -> u32
+    ensures { λ r. ⌜ r ≡ abortRefusal th ⌝ }
+{
+    first(
+        unless(th.created, THREAD_ERROR),
+        unless(th.is_paused(), WAIT_ABORT_ERROR),
+    )
+}
+
+pub fn priority_change(th: Thread, priority: u32, caller: u32) -> u32
+    ensures { λ r. ⌜ r ≡ priorityRefusal th priority caller ⌝ }
+{
+    first(
+        unless(th.created, THREAD_ERROR),
+        first(
+            unless(priority < 32, PRIORITY_ERROR),
+            unless(caller == THREAD, CALLER_ERROR),
+        ),
+    )
+}
+
+pub fn preemption_change(th: Thread, threshold: u32, caller: u32) -> u32
+    ensures { λ r. ⌜ r ≡ preemptionRefusal th threshold caller ⌝ }
+{
+    first(
+        unless(th.created, THREAD_ERROR),
+        first(
+            unless(threshold <= th.priority as u32, THRESH_ERROR),
+            unless(caller == THREAD, CALLER_ERROR),
+        ),
+    )
+}
+
+pub fn tick(caller: u32) -> u32
+    ensures { λ r. ⌜ r ≡ tickRefusal caller ⌝ }
+{
+    unless(caller == INTERRUPT, CALLER_ERROR)
+}
+
+// The reads of state and words.
+pub fn read(th: Thread) -> u32
+    ensures { λ r. ⌜ r ≡ readRefusal th ⌝ }
+{
+    unless(th.created, THREAD_ERROR)
+}
+
+pub fn semaphore_create(n: SemaphoreId, x: Semaphore, caller: u32) -> u32
+    ensures { λ r. ⌜ r ≡ semaphoreCreateRefusal (n .0) x caller ⌝ }
+{
+    first(
+        unless((n.0 < 16) & !x.created, SEMAPHORE_ERROR),
+        unless(!(caller == INTERRUPT), CALLER_ERROR),
+    )
+}
+
+pub fn semaphore_delete(x: Semaphore, caller: u32) -> u32
+    ensures { λ r. ⌜ r ≡ semaphoreDeleteRefusal x caller ⌝ }
+{
+    first(
+        unless(x.created, SEMAPHORE_ERROR),
+        unless(caller == THREAD, CALLER_ERROR),
+    )
+}
+
+pub fn semaphore_get(x: Semaphore, wait: u32, caller: u32) -> u32
+    ensures { λ r. ⌜ r ≡ semaphoreGetRefusal x wait caller ⌝ }
+{
+    first(
+        unless(x.created, SEMAPHORE_ERROR),
+        first(
+            unless((wait == 0) | (caller == THREAD), WAIT_ERROR),
+            unless((0 < wait) | (0 < x.count), NO_INSTANCE),
+        ),
+    )
+}
+
+// Put and prioritise.
+pub fn semaphore(x: Semaphore) -> u32
+    ensures { λ r. ⌜ r ≡ semaphoreRefusal x ⌝ }
+{
+    unless(x.created, SEMAPHORE_ERROR)
+}
+
+pub fn ceiling_put(x: Semaphore, ceiling: u32) -> u32
+    ensures { λ r. ⌜ r ≡ ceilingRefusal x ceiling ⌝ }
+{
+    first(
+        unless(x.created, SEMAPHORE_ERROR),
+        first(
+            unless(0 < ceiling, INVALID_CEILING),
+            unless(x.count < ceiling, CEILING_EXCEEDED),
+        ),
+    )
+}
