@@ -1,7 +1,9 @@
--- An event flags group's record.
-use mathlib.Core.Bool.{Bool, false, _||_}
+-- An event flags group's record, and the flags that a request asks for.
+use mathlib.Core.Bool.{Bool, false, _&&_, _||_, not}
 use Prim.Native.Nat.{ℕ}
-use lib.Dec.{eqb}
+use lib.Bits.{bitAnd}
+use lib.Dec.{eqb, ltb}
+use Rattle.lines.specs.Logic.{if_then_else_}
 use Rattle.objects.specs.declared.group.Group.{Group}
 
 -- not created: all zero
@@ -11,3 +13,19 @@ noGroup = record { created = false; flags = 0 }
 -- an uncreated record is zero
 abbrev pub groupFitb : Group → Bool
 groupFitb g = g .created || eqb (g .flags) 0
+
+-- options 0 OR, 1 OR and clear, 2 AND, 3 AND and clear
+unfoldable pub orOptionb : ℕ → Bool
+orOptionb option = ltb option 2
+
+-- OR: some requested flag is set
+unfoldable pub someSetb : ℕ → ℕ → Bool
+someSetb flags request = not (eqb (bitAnd flags request) 0)
+
+-- AND: every requested flag is set
+unfoldable pub allSetb : ℕ → ℕ → Bool
+allSetb flags request = eqb (bitAnd flags request) request
+
+-- the flags meet a request under an option; a request of 0 is never met
+unfoldable pub metb : ℕ → ℕ → ℕ → Bool
+metb flags request option = not (eqb request 0) && (if orOptionb option then someSetb flags request else allSetb flags request)

@@ -1,3 +1,4 @@
+pub mod Slots
 pub mod Semaphores
 pub mod Queues
 pub mod Groups

@@ -1,6 +1,5 @@
 -- A semaphore's record.
 use mathlib.Core.Bool.{Bool, false, _||_}
-use Prim.Native.Nat.{ℕ}
 use lib.Dec.{eqb}
 use Rattle.objects.specs.declared.semaphore.Semaphore.{Semaphore}
 

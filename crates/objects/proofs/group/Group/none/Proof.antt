@@ -1,5 +1,4 @@
 use mathlib.Core.Path.{refl}
-use Prim.Native.Nat.{_-_}
 use Rattle.objects.specs.Groups.{noGroup}
 use Rattle.objects.proofs.group.Group.none.Statement.{statement}
 use Rattle.objects.proofs.group.Group.none.Tie as tie

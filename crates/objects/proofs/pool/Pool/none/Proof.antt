@@ -1,5 +1,4 @@
 use mathlib.Core.Path.{refl}
-use Prim.Native.Nat.{_-_}
 use Rattle.objects.specs.Pools.{noPool}
 use Rattle.objects.proofs.pool.Pool.none.Statement.{statement}
 use Rattle.objects.proofs.pool.Pool.none.Tie as tie

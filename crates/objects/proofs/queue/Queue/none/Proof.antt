@@ -1,5 +1,4 @@
 use mathlib.Core.Path.{refl}
-use Prim.Native.Nat.{_-_}
 use Rattle.objects.specs.Queues.{noQueue}
 use Rattle.objects.proofs.queue.Queue.none.Statement.{statement}
 use Rattle.objects.proofs.queue.Queue.none.Tie as tie

@@ -1,5 +1,4 @@
 use mathlib.Core.Path.{refl}
-use Prim.Native.Nat.{_-_}
 use Rattle.objects.specs.Semaphores.{noSemaphore}
 use Rattle.objects.proofs.semaphore.Semaphore.none.Statement.{statement}
 use Rattle.objects.proofs.semaphore.Semaphore.none.Tie as tie

@@ -1,0 +1,6 @@
+pub mod Slots
+pub mod Listings
+pub mod Semaphores
+pub mod Queues
+pub mod Groups
+pub mod Pools
