@@ -8,7 +8,7 @@ use Rattle.lines.specs.Lines.{members, lineOf}
 use Rattle.scheduler.specs.declared.thread.Thread.{Thread}
 use Rattle.scheduler.specs.declared.thread.Place.{Place}
 use Rattle.scheduler.specs.declared.Scheduler.{Scheduler}
-use Rattle.scheduler.specs.Threads.{uncreated, noThread, standsb, placedb}
+use Rattle.scheduler.specs.Threads.{uncreated, noThread, standsb, placedb, awake}
 
 -- ---- reads
 unfoldable pub threadAt : Scheduler → ℕ → Thread
@@ -52,6 +52,10 @@ moved s t th = withOrder (withThread s t th) (without t (members (s .order)) ++ 
 
 unfoldable pub movedFront : Scheduler → ℕ → Thread → Scheduler
 movedFront s t th = withOrder (withThread s t th) (onlyIf (standsb th) t ++ without t (members (s .order)))
+
+-- the wait or sleep of thread t ends
+unfoldable pub woken : Scheduler → ℕ → Scheduler
+woken s t = moved s t (awake (threadAt s t))
 
 -- ---- prioritise
 -- the key by which a thread is compared at a place: its priority; 255, which never counts, for a thread elsewhere

@@ -1,5 +1,5 @@
 -- A thread's record for scheduling, its states, and the place where it stands.
-use mathlib.Core.Bool.{Bool, false, _&&_, _||_}
+use mathlib.Core.Bool.{Bool, true, false, _&&_, _||_}
 use Prim.Native.Nat.{ℕ}
 use lib.Dec.{eqb, ltb}
 use Rattle.lines.specs.Logic.{if_then_else_}
@@ -80,3 +80,23 @@ placedb p th = standsb th && eqb (th .state) (p .state) && eqb (numberOf th) (p 
 -- the place of the ready threads of a priority
 abbrev pub readyAt : ℕ → Place
 readyAt p = record { state = ready; number = p }
+
+-- ---- records of a thread in another state: priority and threshold kept, mark and held suspension ended
+unfoldable pub inState : ℕ → ℕ → ℕ → Thread → Thread
+inState state object ticks th = record { created = th .created; state = state; priority = th .priority; threshold = th .threshold; marked = false; suspending = false; object = object; ticks = ticks }
+
+-- ready, suspended, completed or terminated
+abbrev pub atRest : ℕ → Thread → Thread
+atRest state = inState state 0 0
+
+-- a wait or sleep has ended: suspended where a suspension was held, else ready
+unfoldable pub awake : Thread → Thread
+awake th = atRest (if th .suspending then suspended else ready) th
+
+-- a suspension held, or lifted
+unfoldable pub withSuspension : Bool → Thread → Thread
+withSuspension b th = record { created = th .created; state = th .state; priority = th .priority; threshold = th .threshold; marked = th .marked; suspending = b; object = th .object; ticks = th .ticks }
+
+-- a thread that is created
+unfoldable pub created : ℕ → ℕ → ℕ → Thread
+created state priority threshold = record { created = true; state = state; priority = priority; threshold = threshold; marked = false; suspending = false; object = 0; ticks = 0 }

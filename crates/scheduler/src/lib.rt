@@ -3,7 +3,8 @@
 // One line holds every thread that is ready or waits on an object, by the time of its joining. The order of a place
 // (the ready threads of a priority, the waiters of an object) is the part of that line whose threads are there.
 ghost use mathlib.Core.Path.{_≡_};
-ghost use Rattle.scheduler.specs.Orders.{threadAt, firstAt, withThread, started};
+ghost use Rattle.lines.specs.Lines.{members, lineOf};
+ghost use Rattle.scheduler.specs.Orders.{threadAt, lineAt, firstAt, withThread, started};
 use lines::Line;
 use lines::NOBODY;
 use lines::ThreadId;
@@ -78,5 +79,30 @@ impl Scheduler {
             }
         }
         ThreadId(NOBODY)
+    }
+
+    // The order of a place, whole: it never has more than 32 members.
+    pub fn line_at(self, p: Place) -> Line
+        ensures { λ r. ⌜ (r ≡ lineOf (lineAt self p)) × (members r ≡ lineAt self p) ⌝ }
+    {
+        let o = self.order;
+        let ids = o.ids;
+        let n = o.size() as usize;
+        let mut out: [u8; 32] = [0; 32];
+        let mut len: u8 = 0;
+        let mut i: usize = 0;
+        while i < n {
+            let x = ids[i];
+            let t = x as usize;
+            i += 1;
+            if t < 32 {
+                if self.threads[t].is_at(p) {
+                    let k = len as usize;
+                    out[k] = x;
+                    len += 1;
+                }
+            }
+        }
+        Line { ids: out, len }
     }
 }

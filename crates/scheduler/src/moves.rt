@@ -1,6 +1,6 @@
 // Moves: a thread gets another record and joins the order that the record puts it in.
 ghost use mathlib.Core.Path.{_≡_};
-ghost use Rattle.scheduler.specs.Orders.{moved, movedFront, keysAt, prioritisedAt};
+ghost use Rattle.scheduler.specs.Orders.{moved, movedFront, woken, keysAt, prioritisedAt};
 use super::Scheduler;
 use super::thread::Place;
 use super::thread::Thread;
@@ -37,6 +37,14 @@ impl Scheduler {
             s.order = l;
         }
         s
+    }
+
+    // The wait or sleep of thread `t` ends.
+    pub fn woken(self, t: ThreadId) -> Scheduler
+        ensures { λ r. ⌜ r ≡ woken self (t .0) ⌝ }
+    {
+        let th = self.thread_at(t);
+        self.moved(t, th.awake())
     }
 
     // Each thread's key at a place.

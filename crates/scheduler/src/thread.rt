@@ -2,7 +2,7 @@
 ghost use mathlib.Core.Path.{_≡_};
 ghost use Rattle.lines.specs.Logic.{if_then_else_};
 ghost use Rattle.lines.specs.Lists.{worst};
-ghost use Rattle.scheduler.specs.Threads.{uncreated, noThread, readyb, waitsb, pausedb, standsb, numberOf, placedb};
+ghost use Rattle.scheduler.specs.Threads.{uncreated, noThread, readyb, waitsb, pausedb, standsb, numberOf, placedb, inState, awake, withSuspension, created};
 ghost use Rattle.scheduler.specs.Orders.{keyAt};
 ghost use Rattle.scheduler.specs.Choice.{wantedb, consideredOf};
 ghost use Rattle.scheduler.specs.Sound.{zerob, fitb, countedb};
@@ -78,6 +78,53 @@ impl Thread {
             object: 0,
             ticks: 0,
         }
+    }
+
+    // The record of a thread that is created.
+    pub fn created(state: u8, priority: u8, threshold: u8) -> Thread
+        ensures { λ r. ⌜ r ≡ created state priority threshold ⌝ }
+    {
+        Thread {
+            created: true,
+            state,
+            priority,
+            threshold,
+            marked: false,
+            suspending: false,
+            object: 0,
+            ticks: 0,
+        }
+    }
+
+    // The thread in another state: its mark and a held suspension end.
+    pub fn in_state(mut self, state: u8, object: u8, ticks: u32) -> Thread
+        ensures { λ r. ⌜ r ≡ inState state object ticks self ⌝ }
+    {
+        self.state = state;
+        self.marked = false;
+        self.suspending = false;
+        self.object = object;
+        self.ticks = ticks;
+        self
+    }
+
+    // The thread when its wait or sleep has ended: a held suspension takes effect.
+    pub fn awake(self) -> Thread
+        ensures { λ r. ⌜ r ≡ awake self ⌝ }
+    {
+        if self.suspending {
+            self.in_state(SUSPENDED, 0, 0)
+        } else {
+            self.in_state(READY, 0, 0)
+        }
+    }
+
+    // The thread with a suspension held, or lifted.
+    pub fn with_suspension(mut self, held: bool) -> Thread
+        ensures { λ r. ⌜ r ≡ withSuspension held self ⌝ }
+    {
+        self.suspending = held;
+        self
     }
 
     pub fn is_ready(self) -> bool

@@ -57,6 +57,16 @@ module _ (f : ℕ → Bool) where
   filter-same g [] h = refl
   filter-same g (x ∷ xs) h = let r = filter-same g xs h in λ i. if h x i then x ∷ r i else r i
 
+-- a part is no longer than the list
+pub length-part : (f : ℕ → Bool) (xs : List ℕ) → length (filter f xs) ≤ length xs
+unfolding filter
+length-part f [] = omega arith
+length-part f (x ∷ xs) =
+    let r = length-part f xs in
+    by-test (f x)
+    (λ q. let e = ap length (filter-yes f x xs q) in omega (arith, e, r))
+    (λ q. let e = ap length (filter-no f x xs q) in omega (arith, e, r))
+
 -- ---- counting
 pub count-here : (t : ℕ) (xs : List ℕ) → count t (t ∷ xs) ≡ suc (count t xs)
 unfolding count oneIf

@@ -1,0 +1,76 @@
+use mathlib.Core.Path.{_≡_, sym, ap, _∙_}
+use Prim.Native.Nat.{_-_}
+use native.Mathlib.Omega.{arith}
+use borrow.Author.Needs.{needs}
+use lib.Dec.{leb}
+use borrow.Author.Tests.{leb-true}
+use Rattle.scheduler.specs.declared.thread.Thread.{Thread}
+use Rattle.scheduler.specs.Threads.{created}
+use Rattle.calls.specs.Refusals.{unless, preemptionRefusal}
+use Rattle.kernel.specs.Tables.{threadOf, withScheduler, withHeld, withSemaphore, withClock, given}
+use Rattle.kernel.specs.Answers.{answerOf, refused, carried, answered}
+use Rattle.kernel.specs.Threads.{threadPreemptionChange}
+use Rattle.kernel.proofs.Laws.Answers.{is-refused, is-carried, first-none, second-none, unless-none}
+use Rattle.kernel.proofs.Kernel.thread_preemption_change.Statement.{statement}
+use Rattle.kernel.proofs.Kernel.thread_preemption_change.Tie as tie
+
+thread-at-requires : tie.Need-thread-at-requires
+thread-at-requires c κs = search needs
+
+preemption-change-requires : tie.Need-preemption-change-requires
+preemption-change-requires c κs = search needs
+
+refused-requires : tie.Need-refused-requires
+refused-requires c κs = search needs
+
+returns : tie.Need-returns
+unfolding threadPreemptionChange
+returns c =
+    let a = c .before .before .before .before .before .args in
+    let e = c .before .before .preemption-change .ensures ∙ ap (λ (x : Thread). preemptionRefusal x (a .threshold) (a .caller)) (c .before .before .before .thread-at .ensures) in
+    c .refused .ensures ∙ ap answerOf (ap (refused (a .self)) e ∙ sym (is-refused (a .self) (preemptionRefusal (threadOf (a .self) (a .t .0)) (a .threshold) (a .caller)) _ (λ w. c .before .if1 .taken (e ∙ w))))
+
+cast-two-words : tie.Need-cast-two-words
+cast-two-words c = search needs
+
+two-words-requires : tie.Need-two-words-requires
+two-words-requires c κs = search needs
+
+cast-preemption-changed : tie.Need-cast-preemption-changed
+unfolding preemptionRefusal
+cast-preemption-changed c =
+    let a = c .before .before .before .before .before .before .args in
+    let e = c .before .before .before .preemption-change .ensures ∙ ap (λ (x : Thread). preemptionRefusal x (a .threshold) (a .caller)) (c .before .before .before .before .thread-at .ensures) in
+    let w = second-none (unless (threadOf (a .self) (a .t .0) .created) 14) _ (sym e ∙ c .before .before .if1 .left) in
+    let m = leb-true (a .threshold) (threadOf (a .self) (a .t .0) .priority) (unless-none (leb (a .threshold) (threadOf (a .self) (a .t .0) .priority)) 24 (omega arith) (first-none (unless (leb (a .threshold) (threadOf (a .self) (a .t .0) .priority)) 24) _ w)) in
+    let q = ap (λ (x : Thread). x .priority) (c .before .before .before .before .thread-at .ensures) in
+    omega (arith, m, q, c .before .struct-known .given .1 .1 .0)
+
+preemption-changed-requires : tie.Need-preemption-changed-requires
+preemption-changed-requires c κs = search needs
+
+carried-requires : tie.Need-carried-requires
+carried-requires c κs = search needs
+
+returns-2 : tie.Need-returns-2
+unfolding threadPreemptionChange answerOf carried answered given withHeld withScheduler withSemaphore withClock
+returns-2 c =
+    let a = c .before .before .before .before .before .before .before .before .args in
+    let e = c .before .before .before .before .before .preemption-change .ensures ∙ ap (λ (x : Thread). preemptionRefusal x (a .threshold) (a .caller)) (c .before .before .before .before .before .before .thread-at .ensures) in
+    let z : preemptionRefusal (threadOf (a .self) (a .t .0)) (a .threshold) (a .caller) ≡ 0 = sym e ∙ c .before .before .before .before .if1 .left in
+    rw (is-carried, ← c .before .before .before .before .before .before .thread-at .ensures) (c .carried .ensures ∙ rw (c .before .preemption-changed .ensures, c .before .before .two-words .ensures))
+
+pub thread-preemption-change-spec : {M : Type 1} → statement M
+thread-preemption-change-spec =
+    tie.close
+    (tie.spec
+    thread-at-requires
+    preemption-change-requires
+    refused-requires
+    returns
+    cast-two-words
+    two-words-requires
+    cast-preemption-changed
+    preemption-changed-requires
+    carried-requires
+    returns-2)

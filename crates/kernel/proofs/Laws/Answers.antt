@@ -1,0 +1,55 @@
+-- Laws of answers and of reasons to refuse.
+use mathlib.Core.Path.{_≡_, refl, sym, ap, _∙_}
+use mathlib.Core.List.{List, map}
+use mathlib.Core.Bool.{Bool, true, false}
+use Prim.Native.Nat.{ℕ, _≤_, _<_}
+use native.Mathlib.Omega.{arith}
+use lib.ListN.{length, length-map}
+use lib.Seq.{set-out}
+use lib.Dec.{eqb}
+use borrow.Author.Tests.{eq-eqb, eqb-true, ne-eqb}
+use Rattle.lines.specs.Logic.{if_then_else_}
+use Rattle.lines.proofs.Laws.Logic.{by-test}
+use Rattle.calls.specs.declared.held.Held.{Held}
+use Rattle.calls.specs.Refusals.{unless, firstOf}
+use Rattle.kernel.specs.declared.Kernel.{Kernel}
+use Rattle.kernel.specs.Tables.{withHeld}
+use Rattle.kernel.specs.Answers.{Outcome, refused, guarded}
+
+-- an array of structs is as long as the array of their values
+pub length-mapped : {A B : Type 0} (f : A → B) (l : List A) (n : ℕ) → length (map f l) ≡ n → length l ≡ n
+length-mapped f l n p = sym (length-map l f) ∙ p
+
+-- ---- refused or carried out
+pub is-refused : (k : Kernel) (reason : ℕ) (o : Outcome) → (reason ≡ 0 → ⊥) → guarded k reason o ≡ refused k reason
+unfolding guarded
+is-refused k reason o n = ap (λ (b : Bool). if b then o else refused k reason) (ne-eqb reason 0 n)
+
+pub is-carried : (k : Kernel) (reason : ℕ) (o : Outcome) → reason ≡ 0 → guarded k reason o ≡ o
+unfolding guarded
+is-carried k reason o e = ap (λ (b : Bool). if b then o else refused k reason) (eq-eqb reason 0 e)
+
+-- ---- what the lack of a reason says
+pub first-none : (a b : ℕ) → firstOf a b ≡ 0 → a ≡ 0
+unfolding firstOf
+first-none a b e =
+    by-test (eqb a 0)
+    (λ q. eqb-zero a q)
+    (λ q. sym (ap (λ (x : Bool). if x then b else a) q) ∙ e)
+  where
+    eqb-zero : (x : ℕ) → eqb x 0 ≡ true → x ≡ 0
+    eqb-zero x q = eqb-true x 0 q
+
+pub second-none : (a b : ℕ) → firstOf a b ≡ 0 → b ≡ 0
+unfolding firstOf
+second-none a b e = sym (ap (λ (x : Bool). if x then b else a) (eq-eqb a 0 (first-none a b e))) ∙ e
+
+pub unless-none : (b : Bool) (status : ℕ) → 0 < status → unless b status ≡ 0 → b ≡ true
+unfolding unless
+unless-none true status h e = refl
+unless-none false status h e = absurd (let z : status ≡ 0 = e in omega (arith, h, z))
+
+-- ---- past the table nothing is stored
+pub held-out : (k : Kernel) (t : ℕ) (h : Held) → length (k .held) ≡ 32 → 32 ≤ t → withHeld k t h ≡ k
+unfolding withHeld
+held-out k t h e o = rw (set-out (k .held) t h (omega (arith, e, o)))

@@ -1,0 +1,7 @@
+pub mod Tables
+pub mod Answers
+pub mod Waits
+pub mod Threads
+pub mod Clock
+pub mod Semaphores
+pub mod General

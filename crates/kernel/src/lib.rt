@@ -1,0 +1,114 @@
+// The kernel: the tables of everything, the services on them, and the general call.
+//
+// A service takes the tables by value and returns them inside its answer.
+ghost use mathlib.Core.Path.{_≡_};
+ghost use mathlib.Core.List.{List, []};
+ghost use lib.ListN.{getD};
+ghost use Rattle.objects.specs.Semaphores.{noSemaphore};
+ghost use Rattle.calls.specs.Held.{noHeld, twoWords};
+ghost use Rattle.kernel.specs.Tables.{started};
+ghost use Rattle.kernel.specs.Answers.{answerOf, refused, answered};
+use calls::held::Held;
+use lines::ThreadId;
+use objects::group::Group;
+use objects::pool::Pool;
+use objects::queue::Queue;
+use objects::semaphore::Semaphore;
+use objects::semaphore::SemaphoreId;
+use scheduler::Scheduler;
+
+pub mod clock;
+pub mod general;
+pub mod semaphores;
+pub mod threads;
+pub mod waits;
+
+pub struct Kernel {
+    pub scheduler: Scheduler,
+    pub held: [Held; 32],
+    pub semaphores: [Semaphore; 16],
+    pub queues: [Queue; 8],
+    pub groups: [Group; 8],
+    pub pools: [Pool; 4],
+    pub clock: u32,
+}
+
+// A call's result. `next` is 32 where nobody runs, `ended` counts the waits that the call ended with a status.
+pub struct Answer {
+    pub status: u32,
+    pub words: [u32; 16],
+    pub next: ThreadId,
+    pub ended: u32,
+    pub kernel: Kernel,
+}
+
+impl Kernel {
+    // Nothing created.
+    pub fn start() -> Kernel
+        ensures { λ r. ⌜ r ≡ started ⌝ }
+    {
+        Kernel {
+            scheduler: Scheduler::start(),
+            held: [Held::of(0, [0; 16]); 32],
+            semaphores: [Semaphore::none(); 16],
+            queues: [Queue::none(); 8],
+            groups: [Group::none(); 8],
+            pools: [Pool::none(); 4],
+            clock: 0,
+        }
+    }
+
+    // The answer of a refused call: the tables as they are.
+    pub fn refused(self, status: u32) -> Answer
+        ensures { λ r. ⌜ r ≡ answerOf (refused self status) ⌝ }
+    {
+        let s = self.scheduler;
+        let next = s.running;
+        Answer {
+            status,
+            words: [0; 16],
+            next,
+            ended: 0,
+            kernel: self,
+        }
+    }
+
+    // The answer of a call that was carried out, after which the next thread is chosen on `s`.
+    pub fn carried(mut self, s: Scheduler, status: u32, words: [u32; 16], ended: u32) -> Answer
+        ensures { λ r. ⌜ r ≡ answered self s status words ended ⌝ }
+    {
+        let chosen = s.rescheduled(false);
+        let next = chosen.running;
+        self.scheduler = chosen;
+        Answer {
+            status,
+            words,
+            next,
+            ended,
+            kernel: self,
+        }
+    }
+}
+
+// The record of semaphore `n`, that of an uncreated one past the table.
+pub fn semaphore_in(all: [Semaphore; 16], n: SemaphoreId) -> Semaphore
+    ensures { λ r. ⌜ r ≡ getD all (n .0) noSemaphore ⌝ }
+{
+    let i = n.0 as usize;
+    if i < 16 { all[i] } else { Semaphore::none() }
+}
+
+// What thread `t` holds, nothing past the table.
+pub fn held_in(all: [Held; 32], t: ThreadId) -> Held
+    ensures { λ r. ⌜ r ≡ getD all (t .0) noHeld ⌝ }
+{
+    let i = t.0 as usize;
+    if i < 32 { all[i] } else { Held::of(0, [0; 16]) }
+}
+
+// Sixteen words that begin with these two.
+pub fn two_words(a: u32, b: u32) -> [u32; 16]
+    ensures { λ r. ⌜ r ≡ twoWords a b ⌝ }
+{
+    [a, b, 0, 0, 0, 0, 0, 0, 0, 0, 0, 0, 0, 0, 0, 0]
+}

@@ -1,0 +1,152 @@
+// Semaphore services.
+ghost use mathlib.Core.Path.{_≡_};
+ghost use lib.ListN.{set};
+ghost use Rattle.kernel.specs.Answers.{answerOf};
+ghost use Rattle.kernel.specs.Semaphores.{semaphorePlace, counting, semaphoreCreate, semaphoreDelete, semaphoreGet, putOn, semaphorePut, semaphoreCeilingPut, semaphorePrioritize};
+use super::Answer;
+use super::Kernel;
+use super::semaphore_in;
+use calls::held::Held;
+use calls::refusal;
+use calls::status::DELETED;
+use calls::status::SUCCESS;
+use objects::semaphore::Semaphore;
+use objects::semaphore::SemaphoreId;
+use scheduler::thread::ON_SEMAPHORE;
+use scheduler::thread::Place;
+
+// The semaphores with another record for `n`.
+fn semaphores_with(mut all: [Semaphore; 16], n: SemaphoreId, x: Semaphore) -> [Semaphore; 16]
+    ensures { λ r. ⌜ r ≡ set all (n .0) x ⌝ }
+{
+    let i = n.0 as usize;
+    if i < 16 {
+        all[i] = x;
+    }
+    all
+}
+
+// A created semaphore with a count.
+fn counting(count: u32) -> Semaphore
+    ensures { λ r. ⌜ r ≡ counting count ⌝ }
+{
+    Semaphore {
+        created: true,
+        count,
+    }
+}
+
+// Where the waiters of a semaphore stand.
+fn place(n: SemaphoreId) -> Place
+    ensures { λ r. ⌜ r ≡ semaphorePlace (n .0) ⌝ }
+{
+    Place {
+        state: ON_SEMAPHORE,
+        number: n.0,
+    }
+}
+
+impl Kernel {
+    pub fn semaphore_create(mut self, caller: u32, n: SemaphoreId, count: u32) -> Answer
+        ensures { λ r. ⌜ r ≡ answerOf (semaphoreCreate self caller (n .0) count) ⌝ }
+    {
+        let all = self.semaphores;
+        let reason = refusal::semaphore_create(n, semaphore_in(all, n), caller);
+        if reason != 0 {
+            return self.refused(reason);
+        }
+        let s = self.scheduler;
+        let changed = semaphores_with(all, n, counting(count));
+        self.semaphores = changed;
+        self.carried(s, SUCCESS, [0; 16], 0)
+    }
+
+    pub fn semaphore_get(mut self, caller: u32, n: SemaphoreId, wait: u32) -> Answer
+        ensures { λ r. ⌜ r ≡ answerOf (semaphoreGet self caller (n .0) wait) ⌝ }
+    {
+        let all = self.semaphores;
+        let x = semaphore_in(all, n);
+        let reason = refusal::semaphore_get(x, wait, caller);
+        if reason != 0 {
+            return self.refused(reason);
+        }
+        let s = self.scheduler;
+        if 0 < x.count {
+            let changed = semaphores_with(all, n, counting(x.count - 1));
+            self.semaphores = changed;
+            return self.carried(s, SUCCESS, [0; 16], 0);
+        }
+        self.started_wait(ON_SEMAPHORE, n.0, wait)
+    }
+
+    // The first waiter is served, else the count goes up by one.
+    fn put_on(mut self, n: SemaphoreId) -> Answer
+        ensures { λ r. ⌜ r ≡ answerOf (putOn self (n .0)) ⌝ }
+    {
+        let s = self.scheduler;
+        let f = s.first_at(place(n));
+        let i = f.0 as usize;
+        if i < 32 {
+            let h = Held::of(SUCCESS, [0; 16]);
+            self.held[i] = h;
+            return self.carried(s.woken(f), SUCCESS, [0; 16], 1);
+        }
+        let all = self.semaphores;
+        let x = semaphore_in(all, n);
+        let changed = semaphores_with(all, n, counting(std::num::wrapping_add_u32(x.count, 1)));
+        self.semaphores = changed;
+        self.carried(s, SUCCESS, [0; 16], 0)
+    }
+
+    pub fn semaphore_put(self, n: SemaphoreId) -> Answer
+        ensures { λ r. ⌜ r ≡ answerOf (semaphorePut self (n .0)) ⌝ }
+    {
+        let all = self.semaphores;
+        let reason = refusal::semaphore(semaphore_in(all, n));
+        if reason != 0 {
+            return self.refused(reason);
+        }
+        self.put_on(n)
+    }
+
+    pub fn semaphore_ceiling_put(self, n: SemaphoreId, ceiling: u32) -> Answer
+        ensures { λ r. ⌜ r ≡ answerOf (semaphoreCeilingPut self (n .0) ceiling) ⌝ }
+    {
+        let all = self.semaphores;
+        let reason = refusal::ceiling_put(semaphore_in(all, n), ceiling);
+        if reason != 0 {
+            return self.refused(reason);
+        }
+        self.put_on(n)
+    }
+
+    pub fn semaphore_prioritize(self, n: SemaphoreId) -> Answer
+        ensures { λ r. ⌜ r ≡ answerOf (semaphorePrioritize self (n .0)) ⌝ }
+    {
+        let all = self.semaphores;
+        let reason = refusal::semaphore(semaphore_in(all, n));
+        if reason != 0 {
+            return self.refused(reason);
+        }
+        let s = self.scheduler;
+        self.carried(s.prioritised(place(n)), SUCCESS, [0; 16], 0)
+    }
+
+    pub fn semaphore_delete(mut self, caller: u32, n: SemaphoreId) -> Answer
+        ensures { λ r. ⌜ r ≡ answerOf (semaphoreDelete self caller (n .0)) ⌝ }
+    {
+        let all = self.semaphores;
+        let reason = refusal::semaphore_delete(semaphore_in(all, n), caller);
+        if reason != 0 {
+            return self.refused(reason);
+        }
+        let s = self.scheduler;
+        let line = s.line_at(place(n));
+        let mut k = self.ended_each(line, DELETED);
+        let changed = semaphores_with(all, n, Semaphore::none());
+        k.semaphores = changed;
+        let after = k.scheduler;
+        let ended = line.size() as u32;
+        k.carried(after, SUCCESS, [0; 16], ended)
+    }
+}

@@ -1,0 +1,182 @@
+-- Laws of tapes: words past the end, how many records and message words there are, and where each is.
+use mathlib.Core.Path.{_≡_, refl, sym, ap, ap₂, _∙_}
+use mathlib.Core.List.{List, [], _∷_, map}
+use mathlib.Core.Bool.{Bool, true, false, _||_, not}
+use Prim.Native.Nat.{ℕ, zero, suc, _+_, _≤_, _<_}
+use native.Mathlib.Nat.{not-suc-le-zero, le-of-suc-le-suc}
+use native.Mathlib.Omega.{arith}
+use native.Mathlib.Numerals.{add-one}
+use lib.ListN.{length, getD, take, drop, set, replicate, length-map, List·getD-eq-default, List·getD-map, drop-of-length-le}
+use lib.Seq.{drop-cons, take-all}
+use lib.Dec.{eqb, ltb}
+use borrow.Author.Tests.{ltb-false, eqb-true, not-false}
+use Rattle.lines.specs.Lines.{pad}
+use Rattle.lines.proofs.Laws.Logic.{by-test, never}
+use Rattle.lines.proofs.Laws.Lists.{getD-any}
+use Rattle.lines.proofs.Laws.Lines.{take-pad}
+use Rattle.tape.specs.declared.Record.{Record}
+use Rattle.tape.specs.Tapes.{wordAt, headerBytes, mostRecords, mostMessageWords, recordsSaid, recordsOffset, messagesSaid, messagesOffset, recordsEnd, tapeEnd, refusedb, countOf, messageCountOf, noRecord, recordAt, messageAt, numbersFrom, recordsOf, messagesOf}
+
+-- past the end there are zeros
+pub word-past : (bytes : List ℕ) (at : ℕ) → length bytes ≤ at → wordAt bytes at ≡ 0
+unfolding wordAt
+word-past bytes at h =
+    let b0 = List·getD-eq-default bytes 0 h in
+    let b1 : getD bytes (at + 1) 0 ≡ 0 = List·getD-eq-default bytes 0 (omega arith) in
+    let b2 : getD bytes (at + 2) 0 ≡ 0 = List·getD-eq-default bytes 0 (omega arith) in
+    let b3 : getD bytes (at + 3) 0 ≡ 0 = List·getD-eq-default bytes 0 (omega arith) in
+    omega (arith, b0, b1, b2, b3)
+
+-- ---- numbers in order
+pub length-numbers : (i n : ℕ) → length (numbersFrom i n) ≡ n
+unfolding numbersFrom
+length-numbers i zero = refl
+length-numbers i (suc n) = ap suc (length-numbers (suc i) n)
+
+pub number-at : (i n k : ℕ) → k < n → getD (numbersFrom i n) k 0 ≡ i + k
+unfolding numbersFrom
+number-at i zero k h = absurd (not-suc-le-zero h)
+number-at i (suc n) zero h = omega arith
+number-at i (suc n) (suc k) h = let r = number-at (suc i) n k (le-of-suc-le-suc h) in omega (arith, r)
+
+-- what a function makes of the first n numbers
+module _ {A : Type 0} (f : ℕ → A) (n : ℕ) where
+  pub length-made : length (map f (numbersFrom 0 n)) ≡ n
+  length-made = length-map (numbersFrom 0 n) f ∙ length-numbers 0 n
+
+  pub made-at : (k : ℕ) (d : A) → k < n → getD (map f (numbersFrom 0 n)) k d ≡ f k
+  made-at k d h =
+      getD-any (map f (numbersFrom 0 n)) k d (f 0) (let l = length-made in omega (arith, l))
+      ∙ List·getD-map f (numbersFrom 0 n) k 0
+      ∙ ap f (let r = number-at 0 n k h in omega (arith, r))
+
+-- ---- a table that is filled from the front
+pub length-pad : (n : ℕ) (xs : List ℕ) → length (pad n xs) ≡ n
+unfolding pad
+length-pad zero xs = refl
+length-pad (suc n) [] = ap suc (length-pad n [])
+length-pad (suc n) (x ∷ xs) = ap suc (length-pad n xs)
+
+pub pad-none : (n : ℕ) → replicate n 0 ≡ pad n []
+unfolding pad
+pad-none zero = refl
+pad-none (suc n) = ap {B = List ℕ} (λ r. 0 ∷ r) (pad-none n)
+
+pub pad-more : (n i : ℕ) (xs : List ℕ) → i < n → i < length xs → set (pad n (take i xs)) i (getD xs i 0) ≡ pad n (take (suc i) xs)
+unfolding pad
+pad-more zero i xs h l = absurd (not-suc-le-zero h)
+pad-more (suc n) i [] h l = absurd (not-suc-le-zero l)
+pad-more (suc n) zero (x ∷ xs) h l = refl
+pad-more (suc n) (suc i) (x ∷ xs) h l = ap {B = List ℕ} (λ r. x ∷ r) (pad-more n i xs (le-of-suc-le-suc h) (le-of-suc-le-suc l))
+
+-- ---- a tape that is not refused
+or-no-left : (a b : Bool) → (a || b) ≡ false → a ≡ false
+or-no-left true b e = e
+or-no-left false b e = refl
+
+or-no-right : (a b : Bool) → (a || b) ≡ false → b ≡ false
+or-no-right true b e = never refl e
+or-no-right false b e = e
+
+or-no : (a b c d e f : Bool) → (a || b || c || d || e || f) ≡ false → (a ≡ false) × (b ≡ false) × (c ≡ false) × (d ≡ false) × (e ≡ false) × (f ≡ false)
+or-no a b c d e f h =
+    let h5 = or-no-left (a || b || c || d || e) f h in
+    let h4 = or-no-left (a || b || c || d) e h5 in
+    let h3 = or-no-left (a || b || c) d h4 in
+    let h2 = or-no-left (a || b) c h3 in
+    (or-no-left a b h2, or-no-right a b h2, or-no-right (a || b) c h3, or-no-right (a || b || c) d h4, or-no-right (a || b || c || d) e h5, or-no-right (a || b || c || d || e) f h)
+
+module _ (bytes : List ℕ) where
+  -- its offsets, its counts and its length are as the format says
+  pub accepted : refusedb bytes ≡ false
+      → (recordsOffset bytes ≡ headerBytes)
+      × (recordsSaid bytes ≤ mostRecords)
+      × (messagesOffset bytes ≡ recordsEnd (recordsSaid bytes))
+      × (messagesSaid bytes ≤ mostMessageWords)
+      × (length bytes ≡ tapeEnd (recordsSaid bytes) (messagesSaid bytes))
+  unfolding refusedb
+  accepted h =
+      let n = recordsSaid bytes in
+      let m = messagesSaid bytes in
+      let t =
+      or-no (ltb (length bytes) headerBytes) (not (eqb (recordsOffset bytes) headerBytes)) (ltb mostRecords n)
+      (not (eqb (messagesOffset bytes) (recordsEnd n))) (ltb mostMessageWords m) (not (eqb (length bytes) (tapeEnd n m))) h in (
+        eqb-true _ _ (not-false (eqb (recordsOffset bytes) headerBytes) (t .1)),
+        ltb-false mostRecords n (t .2),
+        eqb-true _ _ (not-false (eqb (messagesOffset bytes) (recordsEnd n)) (t .3)),
+        ltb-false mostMessageWords m (t .4),
+        eqb-true _ _ (not-false (eqb (length bytes) (tapeEnd n m)) (t .5)),
+      )
+
+  pub count-refused : refusedb bytes ≡ true → countOf bytes ≡ 0
+  unfolding countOf
+  count-refused e = rw e
+
+  pub count-accepted : refusedb bytes ≡ false → countOf bytes ≡ recordsSaid bytes
+  unfolding countOf
+  count-accepted e = rw e
+
+  pub messages-refused : refusedb bytes ≡ true → messageCountOf bytes ≡ 0
+  unfolding messageCountOf
+  messages-refused e = rw e
+
+  pub messages-accepted : refusedb bytes ≡ false → messageCountOf bytes ≡ messagesSaid bytes
+  unfolding messageCountOf
+  messages-accepted e = rw e
+
+  pub count-most : countOf bytes ≤ mostRecords
+  count-most =
+      by-test (refusedb bytes)
+      (λ e. let z = count-refused e in omega (arith, z))
+      (λ e. let z = count-accepted e in let h = accepted e .1 in omega (arith, z, h))
+
+  pub messages-most : messageCountOf bytes ≤ mostMessageWords
+  messages-most =
+      by-test (refusedb bytes)
+      (λ e. let z = messages-refused e in omega (arith, z))
+      (λ e. let z = messages-accepted e in let h = accepted e .3 in omega (arith, z, h))
+
+  -- ---- its records and its message words
+  pub length-records : length (recordsOf bytes) ≡ countOf bytes
+  unfolding recordsOf
+  length-records = length-made (recordAt bytes) (countOf bytes)
+
+  pub record-in : (i : ℕ) (r : Record) → i < countOf bytes → getD (recordsOf bytes) i r ≡ recordAt bytes i
+  unfolding recordsOf
+  record-in i r h = made-at (recordAt bytes) (countOf bytes) i r h
+
+  -- the next record, as a run takes it
+  pub record-next : (i : ℕ) → i < countOf bytes → drop i (recordsOf bytes) ≡ recordAt bytes i ∷ drop (i + 1) (recordsOf bytes)
+  record-next i h =
+      let l : i < length (recordsOf bytes) = let z = length-records in omega (arith, z) in
+      drop-cons (recordsOf bytes) i noRecord l ∙ ap₂ {C = List Record} (λ (x : Record) (k : ℕ). x ∷ drop k (recordsOf bytes)) (record-in i noRecord h) (sym (add-one i))
+
+  pub record-last : (i : ℕ) → countOf bytes ≤ i → drop i (recordsOf bytes) ≡ []
+  record-last i h = drop-of-length-le (recordsOf bytes) {i = i} (let z = length-records in omega (arith, z))
+
+  pub length-messages : length (messagesOf bytes) ≡ messageCountOf bytes
+  unfolding messagesOf
+  length-messages = length-made (messageAt bytes) (messageCountOf bytes)
+
+  pub message-in : (i : ℕ) → i < messageCountOf bytes → getD (messagesOf bytes) i 0 ≡ messageAt bytes i
+  unfolding messagesOf
+  message-in i h = made-at (messageAt bytes) (messageCountOf bytes) i 0 h
+
+  -- the first words of the table that is read are the message words
+  pub messages-front : take (messageCountOf bytes) (pad mostMessageWords (messagesOf bytes)) ≡ messagesOf bytes
+  messages-front =
+      let xs = messagesOf bytes in
+      let a = take-all mostMessageWords xs (let z = length-messages in let h = messages-most in omega (arith, z, h)) in
+      ap (λ (k : ℕ). take k (pad mostMessageWords xs)) (sym length-messages ∙ ap length (sym a)) ∙ take-pad mostMessageWords xs ∙ a
+
+-- ---- lending the message words: of the table that `messages` answers and the number that `message_count` answers, the first m words of
+-- the table may be lent, and they are the message words
+module _ (bytes words : List ℕ) (m : ℕ) (e : words ≡ pad mostMessageWords (messagesOf bytes)) (g : m ≡ messageCountOf bytes) where
+  pub lent-within : m ≤ length words
+  lent-within = let h = messages-most bytes in let l = ap length e ∙ length-pad mostMessageWords (messagesOf bytes) in omega (arith, h, l)
+
+  pub lent-words : take m words ≡ messagesOf bytes
+  lent-words = ap₂ take g e ∙ messages-front bytes
+
+  pub lent-length : m ≡ length (take m words)
+  lent-length = g ∙ sym (length-messages bytes) ∙ ap length (sym lent-words)

@@ -1,0 +1,22 @@
+use Prim.Native.Nat.{_-_}
+use borrow.Author.Needs.{needs}
+use Rattle.tape.specs.Tapes.{messageCountOf}
+use Rattle.tape.proofs.message_count.Statement.{statement}
+use Rattle.tape.proofs.message_count.Tie as tie
+
+is-refused-requires : tie.Need-is-refused-requires
+is-refused-requires c κs = search needs
+
+word-requires : tie.Need-word-requires
+word-requires c κs = search needs
+
+returns : tie.Need-returns
+unfolding messageCountOf
+returns c = rw (← c .before .is-refused .ensures, c .if1 .taken)
+
+returns-2 : tie.Need-returns-2
+unfolding messageCountOf
+returns-2 c = rw (← c .before .before .is-refused .ensures, c .before .if1 .left) (c .word .ensures)
+
+pub message-count-spec : {M : Type 1} → statement M
+message-count-spec = tie.close (tie.spec is-refused-requires word-requires returns returns-2)

@@ -1,0 +1,100 @@
+use mathlib.Core.Path.{_≡_, sym, ap, _∙_}
+use Prim.Native.Nat.{_<_, _≤_, _+_, _-_, _*_}
+use native.Mathlib.Omega.{arith}
+use borrow.Author.Needs.{needs}
+use lib.ListN.{length, take, getD}
+use lib.Seq.{take-all}
+use native.Mathlib.Numerals.{add-one}
+use Rattle.lines.specs.Lines.{pad}
+use Rattle.tape.specs.Tapes.{wordAt, recordsEnd, tapeEnd, countOf, messageAt, messagesOf}
+use Rattle.tape.proofs.Laws.Tapes.{count-most, messages-most, length-messages, message-in, pad-none, pad-more}
+use Rattle.tape.proofs.messages.Statement.{statement}
+use Rattle.tape.proofs.messages.Tie as tie
+
+abbrev Inv-loop : tie.InvT-loop
+Inv-loop bytes n m start words₀ i₀ words i = (i ≤ m) × (m ≤ 4000) × (words ≡ pad 4000 (take i (messagesOf bytes)))
+
+abbrev μ-loop : tie.MeasureT-loop
+μ-loop bytes n m start words₀ i₀ words i = m - i
+
+count-requires : tie.Need-count-requires Inv-loop μ-loop
+count-requires c κs = search needs
+
+message-count-requires : tie.Need-message-count-requires Inv-loop μ-loop
+message-count-requires c κs = search needs
+
+cast-m : tie.Need-cast-m Inv-loop μ-loop
+cast-m c = search needs
+
+records-end-requires : tie.Need-records-end-requires Inv-loop μ-loop
+records-end-requires c κs = search needs
+
+loop-holds : tie.Need-loop-holds Inv-loop μ-loop
+loop-holds c =
+    let most = messages-most (c .before .before .before .before .args .bytes .now) in
+    let g = c .before .message-count .ensures in
+    (omega arith, omega (arith, g, most), pad-none 4000)
+
+mul-word : tie.Need-mul-word Inv-loop μ-loop
+mul-word c = search needs
+
+add-word : tie.Need-add-word Inv-loop μ-loop
+unfolding recordsEnd
+add-word c = let most = count-most (c .before .before .before .before .before .before .args .bytes .now) in omega (arith, c .before .before .records-end .ensures, c .before .before .before .before .count .ensures, most)
+
+word-requires : tie.Need-word-requires Inv-loop μ-loop
+word-requires c κs = search needs
+
+mul-words : tie.Need-mul-words Inv-loop μ-loop
+mul-words c = search needs
+
+array-write-words : tie.Need-array-write-words Inv-loop μ-loop
+array-write-words c = search needs
+
+add-i : tie.Need-add-i Inv-loop μ-loop
+add-i c = search needs
+
+loop-less : tie.Need-loop-less Inv-loop μ-loop
+loop-less c = search needs
+
+loop-again : tie.Need-loop-again Inv-loop μ-loop
+unfolding messageAt tapeEnd recordsEnd
+loop-again c =
+    let l = c .before .before .loop in
+    let a = c .before .before .before .before .before .before .before .args in
+    let s = messagesOf (a .bytes .now) in
+    let k = length-messages (a .bytes .now) in
+    let g = c .before .before .before .before .message-count .ensures in
+    let h : l .i < length s = omega (arith, k, g) in
+    let at : c .before .before .before .records-end .result + 4 * l .i ≡ tapeEnd (countOf (a .bytes .now)) (l .i) = omega (arith, c .before .before .before .records-end .ensures, c .before .before .before .before .before .count .ensures) in
+    let v : c .word .result ≡ getD s (l .i) 0 =
+    c .word .ensures ∙ ap (wordAt (a .bytes .now)) at ∙ sym (message-in (a .bytes .now) (l .i) (omega (arith, g))) in
+    (omega arith, l .inv .1, rw (v, l .inv .2, add-one) (pad-more 4000 (l .i) s (omega arith) h))
+
+returns : tie.Need-returns Inv-loop μ-loop
+returns c =
+    let l = c .before .loop in
+    let s = messagesOf (c .before .before .before .before .before .before .args .bytes .now) in
+    let k = length-messages (c .before .before .before .before .before .before .args .bytes .now) in
+    l .inv .2 ∙ ap (pad 4000) (take-all (l .i) s (omega (arith, k, c .before .before .before .message-count .ensures)))
+
+pub messages-spec : {M : Type 1} → statement M
+messages-spec =
+    tie.close
+    (tie.spec
+    Inv-loop
+    μ-loop
+    count-requires
+    message-count-requires
+    cast-m
+    records-end-requires
+    loop-holds
+    mul-word
+    add-word
+    word-requires
+    mul-words
+    array-write-words
+    add-i
+    loop-less
+    loop-again
+    returns)
