@@ -1,11 +1,18 @@
 // Clock services.
 ghost use mathlib.Core.Path.{_≡_};
 ghost use Rattle.kernel.specs.Answers.{answerOf};
-ghost use Rattle.kernel.specs.Clock.{timeGet, timeSet};
+ghost use Rattle.kernel.specs.Clock.{timeGet, timeSet, tick};
 use super::Answer;
 use super::Kernel;
 use super::two_words;
+use super::waits::is_last_tick;
+use super::waits::is_timed;
+use super::waits::timeout_status;
+use super::waits::with_ticks;
+use calls::held::Held;
+use calls::refusal;
 use calls::status::SUCCESS;
+use lines::ThreadId;
 
 impl Kernel {
     pub fn time_get(self) -> Answer
@@ -22,5 +29,36 @@ impl Kernel {
         let s = self.scheduler;
         self.clock = time;
         self.carried(s, SUCCESS, [0; 16], 0)
+    }
+
+    // The clock goes up by one, and every timed wait has one tick less.
+    pub fn tick(self, caller: u32) -> Answer
+        ensures { λ r. ⌜ r ≡ answerOf (tick self caller) ⌝ }
+    {
+        let reason = refusal::tick(caller);
+        if reason != 0 {
+            return self.refused(reason);
+        }
+        let time = std::num::wrapping_add_u32(self.clock, 1);
+        let mut k = self;
+        let mut s = k.scheduler;
+        let mut ended: u32 = 0;
+        let mut t: usize = 0;
+        while t < 32 {
+            let i = t;
+            let th = s.threads[i];
+            t += 1;
+            if is_last_tick(th) {
+                let h = Held::of(timeout_status(th, k.held[i]), [0; 16]);
+                k.held[i] = h;
+                s = s.woken(ThreadId(i as u8));
+                ended += 1;
+            } else if is_timed(th) {
+                let later = with_ticks(th, th.ticks - 1);
+                s.threads[i] = later;
+            }
+        }
+        k.clock = time;
+        k.carried(s, SUCCESS, [0; 16], ended)
     }
 }

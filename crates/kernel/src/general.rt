@@ -1,1 +1,75 @@
-// The general call.
+// The general call: a number, a caller and four arguments.
+ghost use mathlib.Core.Path.{_≡_};
+ghost use Rattle.kernel.specs.Answers.{answerOf};
+ghost use Rattle.kernel.specs.General.{service, step};
+use super::Answer;
+use super::Kernel;
+use calls::call::Call;
+use calls::call::Decoded;
+use calls::call::THREAD;
+use calls::call::decode;
+use calls::status::NOBODY_RUNS;
+use calls::status::UNKNOWN_CALL;
+
+impl Kernel {
+    // A known call by a known caller.
+    fn service(self, caller: u32, call: Call) -> Answer
+        ensures { λ r. ⌜ r ≡ answerOf (service self caller call) ⌝ }
+    {
+        match call {
+            Call::ThreadCreate(t, priority, threshold, start) => self.thread_create(
+                caller,
+                t,
+                priority,
+                threshold,
+                start,
+            ),
+            Call::ThreadDelete(t) => self.thread_delete(caller, t),
+            Call::ThreadResume(t) => self.thread_resume(t),
+            Call::ThreadSuspend(t) => self.thread_suspend(t),
+            Call::ThreadTerminate(t) => self.thread_terminate(caller, t),
+            Call::ThreadReset(t) => self.thread_reset(caller, t),
+            Call::ThreadFinish => self.thread_finish(caller),
+            Call::ThreadRelinquish => self.thread_relinquish(caller),
+            Call::ThreadSleep(ticks) => self.thread_sleep(caller, ticks),
+            Call::ThreadWaitAbort(t) => self.thread_wait_abort(t),
+            Call::ThreadPriorityChange(t, priority) => self.thread_priority_change(
+                caller,
+                t,
+                priority,
+            ),
+            Call::ThreadPreemptionChange(t, threshold) => self.thread_preemption_change(
+                caller,
+                t,
+                threshold,
+            ),
+            Call::TimeGet => self.time_get(),
+            Call::TimeSet(time) => self.time_set(time),
+            Call::Tick => self.tick(caller),
+            Call::SemaphoreCreate(n, count) => self.semaphore_create(caller, n, count),
+            Call::SemaphoreDelete(n) => self.semaphore_delete(caller, n),
+            Call::SemaphoreGet(n, wait) => self.semaphore_get(caller, n, wait),
+            Call::SemaphorePut(n) => self.semaphore_put(n),
+            Call::SemaphoreCeilingPut(n, ceiling) => self.semaphore_ceiling_put(n, ceiling),
+            Call::SemaphorePrioritize(n) => self.semaphore_prioritize(n),
+            Call::ThreadStateRead(t) => self.thread_state_read(t),
+            Call::ThreadWordsRead(t) => self.thread_words_read(t),
+        }
+    }
+
+    // One call on tables that were tested before.
+    pub fn step(self, number: u32, caller: u32, a: u32, b: u32, c: u32, d: u32) -> Answer
+        ensures { λ r. ⌜ r ≡ answerOf (step self number caller a b c d) ⌝ }
+    {
+        let decoded = decode(number, caller, a, b, c, d);
+        let Decoded::Known(call) = decoded else {
+            return self.refused(UNKNOWN_CALL);
+        };
+        let s = self.scheduler;
+        let r = s.running;
+        if (caller == THREAD) & !(r.0 < 32) {
+            return self.refused(NOBODY_RUNS);
+        }
+        self.service(caller, call)
+    }
+}

@@ -41,7 +41,7 @@ pub fn is_last_tick(th: Thread) -> bool
     is_timed(th) & (th.ticks < 2)
 }
 
-fn with_ticks(mut th: Thread, ticks: u32) -> Thread
+pub fn with_ticks(mut th: Thread, ticks: u32) -> Thread
     ensures { λ r. ⌜ r ≡ withTicks ticks th ⌝ }
 {
     th.ticks = ticks;
@@ -49,7 +49,7 @@ fn with_ticks(mut th: Thread, ticks: u32) -> Thread
 }
 
 // What a wait that times out leaves.
-fn timeout_status(th: Thread, h: Held) -> u32
+pub fn timeout_status(th: Thread, h: Held) -> u32
     ensures { λ r. ⌜ r ≡ timeoutStatus th h ⌝ }
 {
     if th.state == ASLEEP {
