@@ -1,0 +1,4 @@
+//! Readable tapes: text to tape and tape to text.
+
+pub mod assemble;
+pub mod list;

@@ -1,0 +1,178 @@
+//! Comparison, with stand-ins for the proved program and, where it has been
+//! built, with the program itself.
+#![cfg(unix)]
+
+use board_tools::compare::{compare, compare_bytes, first_difference, leave_out, Inspect, NOT_YET};
+use board_tools::fuzz::{fuzz, Options};
+use board_tools::generate::generate;
+use board_tools::rng::Rng;
+use board_tools::text::assemble::assemble;
+use ordinary::{print, Record, Tape};
+use std::fs;
+use std::io::Write;
+use std::os::unix::fs::PermissionsExt;
+use std::path::PathBuf;
+use std::process::Command;
+
+/// A program that prints what the ordinary kernel does, passed through a filter.
+fn stand_in(name: &str, filter: &str) -> Inspect {
+    let folder = PathBuf::from(env!("CARGO_TARGET_TMPDIR")).join(format!("compare-{name}"));
+    fs::create_dir_all(&folder).unwrap();
+    let path = folder.join("inspect");
+    let script =
+        format!("#!/bin/sh\n'{}' inspect - | {filter}\n", env!("CARGO_BIN_EXE_board-tools"));
+    fs::write(&path, script).unwrap();
+    fs::set_permissions(&path, fs::Permissions::from_mode(0o755)).unwrap();
+    Inspect::at(&path).unwrap()
+}
+
+fn fuzz_options(inspect: Inspect) -> Options {
+    Options { seed: 4, from: 0, count: 15, records: 200, inspect: Some(inspect) }
+}
+
+#[test]
+fn equal_outputs_have_no_difference() {
+    let tape = generate(3, 50, &[]);
+    let text = print::inspect_tape(&tape);
+    assert_eq!(first_difference(&text, &text), None);
+}
+
+#[test]
+fn the_first_difference_names_its_record() {
+    let ordinary = "clock 0\nrunning -\n.\ncall 0 13 0 0 0 0 0\nresult 0 - 0\nclock 0\n.\n";
+    let wrong = ordinary.replace("result 0 - 0", "result 0 - 1");
+    let difference = first_difference(ordinary, &wrong).unwrap();
+    assert_eq!(difference.record, Some(0));
+    assert_eq!(difference.ordinary, "result 0 - 0");
+    assert_eq!(difference.proved, "result 0 - 1");
+    let short = "clock 0\nrunning -\n.\n";
+    let difference = first_difference(ordinary, short).unwrap();
+    assert_eq!(difference.record, None);
+    assert_eq!(difference.ordinary, "call 0 13 0 0 0 0 0");
+}
+
+#[test]
+fn calls_not_known_yet_are_left_out() {
+    let tape = generate(8, 300, &[]);
+    let (kept, left_out) = leave_out(&tape);
+    assert_eq!(kept.records.len() + left_out, 300);
+    assert!(kept.records.iter().all(|record| !NOT_YET.contains(&record.call)));
+    let generated = generate(8, 300, NOT_YET);
+    assert_eq!(leave_out(&generated).1, 0);
+}
+
+#[test]
+fn a_right_program_passes() {
+    let inspect = stand_in("right", "cat");
+    assert!(fuzz(&fuzz_options(inspect), &mut |_, _| {}).unwrap().is_ok());
+}
+
+#[test]
+fn a_wrong_status_is_found_and_shrunk() {
+    // 0x0D, "no instance", comes out as 0x0C.
+    let inspect = stand_in("wrong-status", "sed 's/^result 13 /result 12 /'");
+    let found = fuzz(&fuzz_options(inspect), &mut |_, _| {}).unwrap().unwrap_err();
+    assert_eq!(found.tape.records.len(), 2, "{:?}", found.tape);
+    assert!(found.what.contains("ordinary: result 13 "), "{}", found.what);
+    assert!(found.what.contains("proved:   result 12 "), "{}", found.what);
+}
+
+#[test]
+fn a_wrong_table_is_found_and_shrunk() {
+    let inspect = stand_in("wrong-table", "sed 's/held=1/held=0/'");
+    let found = fuzz(&fuzz_options(inspect), &mut |_, _| {}).unwrap().unwrap_err();
+    assert_eq!(found.tape.records.len(), 3, "{:?}", found.tape);
+    assert!(found.what.contains("first different word: held=1 / held=0"), "{}", found.what);
+}
+
+#[test]
+fn the_commands_stop_at_a_difference() {
+    let inspect = stand_in("commands", "sed 's/^clock 1$/clock 2/'");
+    let folder = inspect.path().parent().unwrap().join("found");
+    let _ = fs::remove_dir_all(&folder);
+    fs::create_dir_all(&folder).unwrap();
+    let program = inspect.path().to_str().unwrap();
+    let run = |args: &[&str]| {
+        let output = Command::new(env!("CARGO_BIN_EXE_board-tools")).args(args).output().unwrap();
+        (output.status.code(), String::from_utf8(output.stderr).unwrap())
+    };
+    let out = folder.to_str().unwrap();
+    let (code, message) =
+        run(&["fuzz", "4", "15", "--records", "100", "--inspect", program, "--out", out]);
+    assert_eq!(code, Some(1), "{message}");
+    assert!(message.contains("records after shrinking: 1,"), "{message}");
+    let mut files: Vec<PathBuf> =
+        fs::read_dir(&folder).unwrap().map(|entry| entry.unwrap().path()).collect();
+    files.sort();
+    let [tape, text] = &files[..] else { panic!("{files:?}") };
+    let assembled = assemble(&fs::read(text).unwrap()).unwrap();
+    assert_eq!(assembled.tape.encode(), fs::read(tape).unwrap());
+    // The shrunk tape shows the same difference again, as tape and as text.
+    for file in [tape, text] {
+        let (code, message) = run(&["compare", "--inspect", program, file.to_str().unwrap()]);
+        assert_eq!(code, Some(1), "{message}");
+        assert!(message.contains("ordinary: clock 1"), "{message}");
+        assert!(message.contains("proved:   clock 2"), "{message}");
+    }
+}
+
+#[test]
+fn a_program_that_fails_is_an_error() {
+    let inspect = stand_in("failing", "(cat > /dev/null; echo broken >&2; exit 3)");
+    let error = compare(&inspect, &Tape::default()).unwrap_err();
+    assert!(error.contains("broken"), "{error}");
+    assert!(error.contains('3'), "{error}");
+}
+
+/// The proved program, or a notice that it has not been built. The notice
+/// goes past the test harness, which would keep it to itself.
+fn proved(test: &str) -> Option<Inspect> {
+    match Inspect::find() {
+        Ok(inspect) => Some(inspect),
+        Err(message) => {
+            let notice = format!("{test} skipped: {message}\n");
+            std::io::stderr().write_all(notice.as_bytes()).unwrap();
+            None
+        }
+    }
+}
+
+#[test]
+fn the_proved_program_agrees_on_generated_tapes() {
+    let Some(inspect) = proved("comparison on generated tapes") else { return };
+    let options = Options { seed: 2, from: 0, count: 25, records: 300, inspect: Some(inspect) };
+    if let Err(found) = fuzz(&options, &mut |_, _| {}).unwrap() {
+        panic!("{:?}\n{}", found.tape, found.what);
+    }
+}
+
+#[test]
+fn the_proved_program_agrees_on_hostile_bytes() {
+    let Some(inspect) = proved("comparison on hostile bytes") else { return };
+    let good = generate(6, 10, NOT_YET).encode();
+    let mut rng = Rng::new(5);
+    let mut cases: Vec<Vec<u8>> = vec![Vec::new(), good[..15].to_vec(), good[..40].to_vec()];
+    cases.push([&good[..], &[0]].concat());
+    for _ in 0..20 {
+        let length = rng.below(200);
+        cases.push((0..length).map(|_| rng.below(256) as u8).collect());
+        let mut damaged = good.clone();
+        damaged[rng.below(16) as usize] ^= 1 << rng.below(8);
+        cases.push(damaged);
+    }
+    for (n, m) in [(2049, 0), (2048, 4001), (0xFFFF_FFFF, 0xFFFF_FFFF), (0, 0)] {
+        let header = [n, 16, m, 24u32.wrapping_mul(n).wrapping_add(16)];
+        cases.push(header.map(u32::to_le_bytes).concat());
+    }
+    for bytes in cases {
+        assert_eq!(compare_bytes(&inspect, &bytes).unwrap(), None, "{bytes:?}");
+    }
+}
+
+#[test]
+fn the_proved_program_agrees_on_the_largest_tape() {
+    let Some(inspect) = proved("comparison on the largest tape") else { return };
+    let filler = Record { call: 13, caller: 1, args: [0; 4] };
+    let tape = Tape { records: vec![filler; 2048], words: vec![0xFFFF_FFFF; 4000] };
+    assert_eq!(compare(&inspect, &tape).unwrap(), None);
+}
