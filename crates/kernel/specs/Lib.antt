@@ -5,3 +5,4 @@ pub mod Threads
 pub mod Clock
 pub mod Semaphores
 pub mod General
+pub mod Cases
