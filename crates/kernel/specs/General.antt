@@ -1,8 +1,13 @@
 -- The general call.
+use mathlib.Core.List.{List}
 use mathlib.Core.Bool.{_&&_, not}
 use Prim.Native.Nat.{ℕ}
 use lib.Dec.{eqb, ltb}
 use Rattle.lines.specs.Logic.{if_then_else_}
+use Rattle.lines.specs.Lists.{nobody}
+use Rattle.calls.specs.Held.{noWords}
+use Rattle.kernel.specs.declared.Answer.{Answer}
+use Rattle.kernel.specs.Sound.{soundb}
 use Rattle.calls.specs.Calls.{thread, decoded}
 use Rattle.calls.specs.Statuses as Statuses
 use Rattle.calls.specs.declared.call.Call.{Call}
@@ -11,7 +16,7 @@ use Rattle.calls.specs.declared.call.Decoded.{Decoded}
 use Rattle.calls.specs.declared.call.Decoded.the-variants.{Known, Unknown}
 use Rattle.kernel.specs.declared.Kernel.{Kernel}
 use Rattle.kernel.specs.Tables.{runnerOf}
-use Rattle.kernel.specs.Answers.{Outcome, refused}
+use Rattle.kernel.specs.Answers.{Outcome, answerOf, refused}
 use Rattle.kernel.specs.Threads.{threadCreate, threadDelete, threadResume, threadSuspend, threadTerminate, threadReset, threadFinish, threadRelinquish, threadSleep, threadWaitAbort, threadPriorityChange, threadPreemptionChange, threadStateRead, threadWordsRead}
 use Rattle.kernel.specs.Clock.{timeGet, timeSet, tick}
 use Rattle.kernel.specs.Semaphores.{semaphoreCreate, semaphoreDelete, semaphoreGet, semaphorePut, semaphoreCeilingPut, semaphorePrioritize}
@@ -54,3 +59,11 @@ byRecord k caller Unknown = refused k Statuses.unknownCall
 -- one call on sound tables: number, caller, four arguments
 unfoldable pub step : Kernel → ℕ → ℕ → ℕ → ℕ → ℕ → ℕ → Outcome
 step k number caller a b c d = byRecord k caller (decoded number caller a b c d)
+
+-- "0x100: tables unsound": the tables as they are, next thread none
+unfoldable pub unsound : Kernel → Answer
+unsound k = record { status = Statuses.tablesUnsound; words = noWords; next = record { 0 = nobody }; ended = 0; kernel = k }
+
+-- the general call: number, caller, four arguments and the lent message area, which no call known so far reads
+unfoldable pub call : Kernel → ℕ → ℕ → ℕ → ℕ → ℕ → ℕ → List ℕ → Answer
+call k number caller a b c d messages = if soundb k then answerOf (step k number caller a b c d) else unsound k

@@ -4,5 +4,7 @@ pub mod Waits
 pub mod Threads
 pub mod Clock
 pub mod Semaphores
+pub mod Sound
 pub mod General
+pub mod Runs
 pub mod Cases

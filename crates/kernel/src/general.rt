@@ -1,7 +1,7 @@
 // The general call: a number, a caller and four arguments.
 ghost use mathlib.Core.Path.{_≡_};
 ghost use Rattle.kernel.specs.Answers.{answerOf};
-ghost use Rattle.kernel.specs.General.{service, step};
+ghost use Rattle.kernel.specs.General.{service, step, call};
 use super::Answer;
 use super::Kernel;
 use calls::call::Call;
@@ -9,7 +9,10 @@ use calls::call::Decoded;
 use calls::call::THREAD;
 use calls::call::decode;
 use calls::status::NOBODY_RUNS;
+use calls::status::TABLES_UNSOUND;
 use calls::status::UNKNOWN_CALL;
+use lines::NOBODY;
+use lines::ThreadId;
 
 impl Kernel {
     // A known call by a known caller.
@@ -71,5 +74,30 @@ impl Kernel {
             return self.refused(NOBODY_RUNS);
         }
         self.service(caller, call)
+    }
+
+    // One call. Unsound tables are refused.
+    pub fn call(
+        self,
+        number: u32,
+        caller: u32,
+        a: u32,
+        b: u32,
+        c: u32,
+        d: u32,
+        messages: &[u32],
+    ) -> Answer
+        ensures { λ r. ⌜ r ≡ call self number caller a b c d (now (messages .entry)) ⌝ }
+    {
+        if self.is_sound() {
+            return self.step(number, caller, a, b, c, d);
+        }
+        Answer {
+            status: TABLES_UNSOUND,
+            words: [0; 16],
+            next: ThreadId(NOBODY),
+            ended: 0,
+            kernel: self,
+        }
     }
 }

@@ -19,7 +19,9 @@ use scheduler::Scheduler;
 
 pub mod clock;
 pub mod general;
+pub mod run;
 pub mod semaphores;
+pub mod sound;
 pub mod threads;
 pub mod waits;
 

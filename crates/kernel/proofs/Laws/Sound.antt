@@ -1,0 +1,205 @@
+-- The test of soundness holds exactly of sound tables; what the test finds, thread by thread.
+use mathlib.Core.Path.{_≡_, refl, sym, ap, ap₂, _∙_}
+use mathlib.Core.Bool.{Bool, true, false, _&&_, and-true, and-false}
+use Prim.Native.Nat.{ℕ, _+_, _≤_, _<_}
+use native.Mathlib.Omega.{arith}
+use lib.ListN.{length, List·getD-eq-default}
+use lib.Dec.{eqb}
+use borrow.Author.Tests.{eqb-true, ne-eqb}
+use Rattle.lines.specs.Logic.{oneIf, implies, allBelow}
+use Rattle.lines.specs.Lists.{filter, count, below, first, firstWith, leastOf, firstOfKey, bestOf}
+use Rattle.lines.specs.Lines.{members, pad, lineOf, cleanb}
+use Rattle.lines.proofs.Laws.Logic.{and-left, and-right, and-in, all-at, all-in, all-more}
+use Rattle.scheduler.specs.declared.thread.Thread.{Thread}
+use Rattle.scheduler.specs.Threads.{onQueue, onSemaphore, onFlags, onBlock, uncreated, noThread, readyb, waitsb, sleepsb, pausedb, standsb}
+use Rattle.scheduler.specs.Orders as Orders
+use Rattle.scheduler.specs.Choice.{bestAmong, bestReady}
+use Rattle.scheduler.specs.Sound as Scheduling
+use Rattle.scheduler.proofs.Laws.Testing
+use Rattle.objects.specs.declared.semaphore.Semaphore.{Semaphore}
+use Rattle.objects.specs.declared.queue.Queue.{Queue}
+use Rattle.objects.specs.declared.group.Group.{Group}
+use Rattle.objects.specs.declared.pool.Pool.{Pool}
+use Rattle.objects.specs.Slots.{zeroFrom}
+use Rattle.objects.specs.Semaphores.{noSemaphore, semaphoreFitb}
+use Rattle.objects.specs.Queues.{noQueue, queueZerob, queueFitb}
+use Rattle.objects.specs.Groups.{noGroup, groupFitb}
+use Rattle.objects.specs.Pools.{noPool, poolZerob, poolFitb}
+use Rattle.calls.specs.declared.held.Held.{Held}
+use Rattle.calls.specs.Held.{holding}
+use Rattle.kernel.specs.declared.Kernel.{Kernel}
+use Rattle.kernel.specs.Tables.{started, threadOf, heldAt, semaphoreAt}
+use Rattle.kernel.specs.Sound.{queueAt, groupAt, poolAt, blankFrom, waitsOnb, sendsb, statusFitb, wordsFitb, senderFitb, requestFitb, unheldFitb, heldFitb, semaphoreWaitb, queueWaitb, groupWaitb, poolWaitb, waitFitb, semaphoresFitb, queuesFitb, groupsFitb, poolsFitb, soundb, Sound}
+
+-- ---- one thread more of a test of all
+pub one-more : (f : ℕ → Bool) (t : ℕ) (ok b : Bool) → ok ≡ allBelow t f → b ≡ f t → (ok && b) ≡ allBelow (t + 1) f
+one-more f t ok b p q = ap₂ _&&_ p q ∙ all-more f t
+
+pub none-more : (f : ℕ → Bool) (t : ℕ) (ok : Bool) → ok ≡ allBelow t f → f t ≡ true → ok ≡ allBelow (t + 1) f
+none-more f t ok p q = sym (and-true ok) ∙ one-more f t ok true p (sym q)
+
+pub past-more : (f : ℕ → Bool) (t : ℕ) → f t ≡ false → false ≡ allBelow (t + 1) f
+past-more f t q = sym (and-false (allBelow t f)) ∙ one-more f t (allBelow t f) false refl (sym q)
+
+-- ---- a number against the size of a table
+pub inside : {n m l : ℕ} → n < m → l ≡ m → n < l
+inside h e = omega arith
+
+pub outside : {n m l : ℕ} → m ≤ n → l ≡ m → l ≤ n
+outside h e = omega arith
+
+-- ---- who waits on one kind of object waits on no other
+other : (a b : ℕ) (th : Thread) → (a ≡ b → ⊥) → waitsOnb a th ≡ true → waitsOnb b th ≡ false
+unfolding waitsOnb
+other a b th n e =
+    let s = eqb-true (th .state) a (and-right (th .created) (eqb (th .state) a) e) in
+    ap (λ (x : Bool). th .created && x) (ne-eqb (th .state) b (λ q. n (sym s ∙ q))) ∙ and-false (th .created)
+
+module _ (k : Kernel) (t : ℕ) where
+  on-none :
+      waitsOnb onQueue (threadOf k t) ≡ false
+      → waitsOnb onSemaphore (threadOf k t) ≡ false
+      → waitsOnb onFlags (threadOf k t) ≡ false
+      → waitsOnb onBlock (threadOf k t) ≡ false
+      → waitFitb k t ≡ true
+  unfolding waitFitb implies
+  on-none a b c d = rw (a, b, c, d)
+
+  pub on-queue : waitsOnb onQueue (threadOf k t) ≡ true → waitFitb k t ≡ queueWaitb (heldAt k t) (queueAt k (threadOf k t .object))
+  unfolding waitFitb implies
+  on-queue e = rw (e, other 5 6 (threadOf k t) (λ q. omega arith) e, other 5 7 (threadOf k t) (λ q. omega arith) e, other 5 8 (threadOf k t) (λ q. omega arith) e) (simp and-true)
+
+  pub on-semaphore : waitsOnb onSemaphore (threadOf k t) ≡ true → waitFitb k t ≡ semaphoreWaitb (semaphoreAt k (threadOf k t .object))
+  unfolding waitFitb implies
+  on-semaphore e = rw (e, other 6 5 (threadOf k t) (λ q. omega arith) e, other 6 7 (threadOf k t) (λ q. omega arith) e, other 6 8 (threadOf k t) (λ q. omega arith) e) (simp and-true)
+
+  pub on-group : waitsOnb onFlags (threadOf k t) ≡ true → waitFitb k t ≡ groupWaitb (heldAt k t) (groupAt k (threadOf k t .object))
+  unfolding waitFitb implies
+  on-group e = rw (e, other 7 5 (threadOf k t) (λ q. omega arith) e, other 7 6 (threadOf k t) (λ q. omega arith) e, other 7 8 (threadOf k t) (λ q. omega arith) e) (simp and-true)
+
+  pub on-pool : waitsOnb onBlock (threadOf k t) ≡ true → waitFitb k t ≡ poolWaitb (poolAt k (threadOf k t .object))
+  unfolding waitFitb implies
+  on-pool e = rw (e, other 8 5 (threadOf k t) (λ q. omega arith) e, other 8 6 (threadOf k t) (λ q. omega arith) e, other 8 7 (threadOf k t) (λ q. omega arith) e)
+
+-- ---- the same of a thread, its held things and its object as a loop reads them
+module _ (k : Kernel) (t : ℕ) (th : Thread) (e : th ≡ threadOf k t) where
+  abbrev on : ℕ → Bool → Type 0
+  on state b = waitsOnb state th ≡ b
+
+  abbrev kept : (state : ℕ) (b : Bool) → on state b → waitsOnb state (threadOf k t) ≡ b
+  kept state b w = sym (ap (waitsOnb state) e) ∙ w
+
+  pub waits-none : on onQueue false → on onSemaphore false → on onFlags false → on onBlock false → waitFitb k t ≡ true
+  waits-none a b c d = on-none k t (kept 5 false a) (kept 6 false b) (kept 7 false c) (kept 8 false d)
+
+  pub waits-queue : (h : Held) (q : Queue) → h ≡ heldAt k t → q ≡ queueAt k (th .object) → on onQueue true → queueWaitb h q ≡ waitFitb k t
+  waits-queue h q x y w = ap₂ queueWaitb x (y ∙ ap (λ (r : Thread). queueAt k (r .object)) e) ∙ sym (on-queue k t (kept 5 true w))
+
+  pub waits-semaphore : (x : Semaphore) → x ≡ semaphoreAt k (th .object) → on onSemaphore true → semaphoreWaitb x ≡ waitFitb k t
+  waits-semaphore x y w = ap semaphoreWaitb (y ∙ ap (λ (r : Thread). semaphoreAt k (r .object)) e) ∙ sym (on-semaphore k t (kept 6 true w))
+
+  pub waits-group : (h : Held) (g : Group) → h ≡ heldAt k t → g ≡ groupAt k (th .object) → on onFlags true → groupWaitb h g ≡ waitFitb k t
+  waits-group h g x y w = ap₂ groupWaitb x (y ∙ ap (λ (r : Thread). groupAt k (r .object)) e) ∙ sym (on-group k t (kept 7 true w))
+
+  pub waits-pool : (p : Pool) → p ≡ poolAt k (th .object) → on onBlock true → poolWaitb p ≡ waitFitb k t
+  waits-pool p y w = ap poolWaitb (y ∙ ap (λ (r : Thread). poolAt k (r .object)) e) ∙ sym (on-pool k t (kept 8 true w))
+
+  -- past its table an object is not created
+  pub past-queues : length (k .queues) ≤ th .object → on onQueue true → waitFitb k t ≡ false
+  unfolding queueAt queueWaitb noQueue
+  past-queues o w = sym (waits-queue (heldAt k t) noQueue refl (sym (List·getD-eq-default (k .queues) noQueue o)) w)
+
+  pub past-semaphores : length (k .semaphores) ≤ th .object → on onSemaphore true → waitFitb k t ≡ false
+  unfolding semaphoreAt semaphoreWaitb noSemaphore
+  past-semaphores o w = sym (waits-semaphore noSemaphore (sym (List·getD-eq-default (k .semaphores) noSemaphore o)) w)
+
+  pub past-groups : length (k .groups) ≤ th .object → on onFlags true → waitFitb k t ≡ false
+  unfolding groupAt groupWaitb noGroup
+  past-groups o w = sym (waits-group (heldAt k t) noGroup refl (sym (List·getD-eq-default (k .groups) noGroup o)) w)
+
+  pub past-pools : length (k .pools) ≤ th .object → on onBlock true → waitFitb k t ≡ false
+  unfolding poolAt poolWaitb noPool
+  past-pools o w = sym (waits-pool noPool (sym (List·getD-eq-default (k .pools) noPool o)) w)
+
+-- ---- the test and soundness
+module _ (k : Kernel) where
+  abbrev heldTest : ℕ → Bool
+  heldTest t = heldFitb (threadOf k t) (heldAt k t)
+
+  abbrev semaphoreTest : ℕ → Bool
+  semaphoreTest n = semaphoreFitb (semaphoreAt k n)
+
+  abbrev queueTest : ℕ → Bool
+  queueTest n = queueFitb (queueAt k n)
+
+  abbrev groupTest : ℕ → Bool
+  groupTest n = groupFitb (groupAt k n)
+
+  abbrev poolTest : ℕ → Bool
+  poolTest n = poolFitb (poolAt k n)
+
+  -- the first tests of `soundb`, up to each
+  abbrev to-held : Bool
+  to-held = Scheduling.soundb (k .scheduler) && allBelow 32 heldTest
+
+  abbrev to-waits : Bool
+  to-waits = to-held && allBelow 32 (waitFitb k)
+
+  abbrev to-semaphores : Bool
+  to-semaphores = to-waits && allBelow 16 semaphoreTest
+
+  abbrev to-queues : Bool
+  to-queues = to-semaphores && allBelow 8 queueTest
+
+  abbrev to-groups : Bool
+  to-groups = to-queues && allBelow 8 groupTest
+
+  pub tested :
+      length (k .scheduler .threads) ≡ 32
+      → length (k .held) ≡ 32
+      → length (k .semaphores) ≡ 16
+      → length (k .queues) ≡ 8
+      → length (k .groups) ≡ 8
+      → length (k .pools) ≡ 4
+      → soundb k ≡ true
+      → Sound k
+  unfolding soundb semaphoresFitb queuesFitb groupsFitb poolsFitb semaphoreAt queueAt groupAt poolAt
+  tested zt zh zs zq zg zp e =
+      let g = and-left to-groups (allBelow 4 poolTest) e in
+      let q = and-left to-queues (allBelow 8 groupTest) g in
+      let s = and-left to-semaphores (allBelow 8 queueTest) q in
+      let w = and-left to-waits (allBelow 16 semaphoreTest) s in
+      let h = and-left to-held (allBelow 32 (waitFitb k)) w in
+      record {
+        scheduler = Testing.tested (k .scheduler) zt (and-left (Scheduling.soundb (k .scheduler)) (allBelow 32 heldTest) h);
+        heldSized = zh;
+        semaphoresSized = zs;
+        queuesSized = zq;
+        groupsSized = zg;
+        poolsSized = zp;
+        held = all-at 32 heldTest (and-right (Scheduling.soundb (k .scheduler)) (allBelow 32 heldTest) h);
+        waits = all-at 32 (waitFitb k) (and-right to-held (allBelow 32 (waitFitb k)) w);
+        semaphores = all-at 16 semaphoreTest (and-right to-waits (allBelow 16 semaphoreTest) s);
+        queues = all-at 8 queueTest (and-right to-semaphores (allBelow 8 queueTest) q);
+        groups = all-at 8 groupTest (and-right to-queues (allBelow 8 groupTest) g);
+        pools = all-at 4 poolTest (and-right to-groups (allBelow 4 poolTest) e);
+      }
+
+  pub passes : Sound k → soundb k ≡ true
+  unfolding soundb semaphoresFitb queuesFitb groupsFitb poolsFitb semaphoreAt queueAt groupAt poolAt
+  passes S =
+      let h = and-in (Scheduling.soundb (k .scheduler)) (allBelow 32 heldTest) (Testing.passes (k .scheduler) (S .scheduler)) (all-in 32 heldTest (S .held)) in
+      let w = and-in to-held (allBelow 32 (waitFitb k)) h (all-in 32 (waitFitb k) (S .waits)) in
+      let s = and-in to-waits (allBelow 16 semaphoreTest) w (all-in 16 semaphoreTest (S .semaphores)) in
+      let q = and-in to-semaphores (allBelow 8 queueTest) s (all-in 8 queueTest (S .queues)) in
+      let g = and-in to-queues (allBelow 8 groupTest) q (all-in 8 groupTest (S .groups)) in
+      and-in to-groups (allBelow 4 poolTest) g (all-in 4 poolTest (S .pools))
+
+-- ---- nothing created
+started-passes : soundb started ≡ true
+unfolding started Orders.started uncreated noThread readyb waitsb sleepsb pausedb standsb Orders.threadAt members pad lineOf cleanb filter count below first firstWith leastOf firstOfKey bestOf bestAmong bestReady oneIf implies allBelow Scheduling.zerob Scheduling.fitb Scheduling.countedb Scheduling.steadyb Scheduling.runsb Scheduling.soundb noSemaphore noQueue noGroup noPool zeroFrom queueZerob queueFitb poolZerob poolFitb holding heldAt semaphoreAt queueAt groupAt poolAt blankFrom waitsOnb sendsb statusFitb wordsFitb senderFitb requestFitb unheldFitb heldFitb waitFitb semaphoresFitb queuesFitb groupsFitb poolsFitb soundb
+started-passes = refl
+
+pub started-sound : Sound started
+unfolding started Orders.started
+started-sound = tested started refl refl refl refl refl refl started-passes

@@ -1,0 +1,54 @@
+// Runs of call tapes.
+ghost use mathlib.Core.Path.{_≡_};
+ghost use Prim.Native.Nat.{min};
+ghost use Rattle.kernel.specs.Runs.{ran};
+use super::Kernel;
+use calls::status::SUCCESS;
+use calls::status::TAPE_REFUSED;
+
+// The tables after a run, and how many records it carried out.
+pub struct Ran {
+    pub status: u32,
+    pub carried: u32,
+    pub kernel: Kernel,
+}
+
+fn smaller(a: u32, b: u32) -> u32
+    ensures { λ r. ⌜ r ≡ min a b ⌝ }
+{
+    if a < b { a } else { b }
+}
+
+impl Kernel {
+    // Carries out the records of a tape in order, at most `most` of them.
+    pub fn run(self, bytes: &[u8], most: u32) -> Ran
+        ensures { λ r. ⌜ r ≡ ran self (now (bytes .entry)) most ⌝ }
+    {
+        if tape::is_refused(bytes) {
+            return Ran {
+                status: TAPE_REFUSED,
+                carried: 0,
+                kernel: self,
+            };
+        }
+        let end = smaller(most, tape::count(bytes));
+        let all = tape::messages(bytes);
+        let m = tape::message_count(bytes) as usize;
+        let messages = &all[..m];
+        let n = end as usize;
+        let mut k = self;
+        let mut i: usize = 0;
+        while i < n {
+            let r = tape::record_at(bytes, i);
+            let a = k.call(r.call, r.caller, r.a, r.b, r.c, r.d, messages);
+            i += 1;
+            let after = a.kernel;
+            k = after;
+        }
+        Ran {
+            status: SUCCESS,
+            carried: end,
+            kernel: k,
+        }
+    }
+}
