@@ -1,5 +1,10 @@
 pub mod Answers
 pub mod Waits
 pub mod Sound
+pub mod Keeps
+pub mod KeepsThreads
+pub mod KeepsTicks
+pub mod KeepsSemaphores
+pub mod Claims
 pub mod Runs
 pub mod Cases

@@ -6,5 +6,6 @@ pub mod Clock
 pub mod Semaphores
 pub mod Sound
 pub mod General
+pub mod Claims
 pub mod Runs
 pub mod Cases

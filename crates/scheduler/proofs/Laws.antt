@@ -1,4 +1,5 @@
 pub mod Threads
+pub mod States
 pub mod Loops
 pub mod Orders
 pub mod Choice

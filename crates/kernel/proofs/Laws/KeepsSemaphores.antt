@@ -1,0 +1,187 @@
+-- Calls 16 to 21 keep soundness.
+use mathlib.Core.Path.{_≡_, refl, sym, ap, _∙_}
+use mathlib.Core.List.{List, []}
+use mathlib.Core.Bool.{Bool, true, false, _&&_, _||_, not}
+use Prim.Native.Nat.{ℕ, _-_, _<_}
+use native.Mathlib.Omega.{arith}
+use lib.ListN.{List·getD-eq-default}
+use lib.Dec.{eqb, ltb}
+use borrow.Author.Tests.{ltb-true, ltb-false, eqb-true, eq-eqb, ne-eqb, not-true}
+use Rattle.lines.specs.Logic.{oneIf}
+use Rattle.lines.specs.Lists.{count}
+use Rattle.lines.proofs.Laws.Logic.{by-test, by-choice, never, and-left, and-right, and-in, or-rest, implies-out}
+use Rattle.scheduler.specs.declared.thread.Thread.{Thread}
+use Rattle.scheduler.specs.Threads.{readyb, waitsb, standsb, numberOf, placedb, inState, awake}
+use Rattle.scheduler.specs.Orders.{threadAt, lineAt, firstAt, prioritisedAt, withOrder}
+use Rattle.scheduler.proofs.Laws.Threads.{placed-stands}
+use Rattle.scheduler.proofs.Laws.Orders
+use Rattle.scheduler.proofs.Laws.States
+use Rattle.scheduler.proofs.Laws.Fairness.{first-placed}
+use Rattle.objects.specs.declared.semaphore.Semaphore.{Semaphore}
+use Rattle.objects.specs.Semaphores.{noSemaphore, semaphoreFitb}
+use Rattle.calls.specs.Held.{noWords, holding}
+use Rattle.calls.specs.Statuses as Statuses
+use Rattle.calls.specs.Refusals.{semaphoreCreateRefusal, semaphoreDeleteRefusal, semaphoreGetRefusal, semaphoreRefusal, ceilingRefusal}
+use Rattle.kernel.specs.declared.Kernel.{Kernel}
+use Rattle.kernel.specs.Tables.{threadOf, runnerOf, heldAt, semaphoreAt, withSemaphore}
+use Rattle.kernel.specs.Answers.{Outcome}
+use Rattle.kernel.specs.Waits.{endEach, startWait, oneMore}
+use Rattle.kernel.specs.Semaphores as Calls
+use Rattle.kernel.specs.Sound.{waitsOnb, semaphoreWaitb, Sound}
+use Rattle.kernel.proofs.Laws.Answers.{first-none, second-none, unless-none}
+use Rattle.kernel.proofs.Laws.Keeps
+use Rattle.kernel.proofs.Laws.KeepsThreads.{runner-made}
+
+-- who waits on semaphore n stands in its line
+waits-placed : (th : Thread) (n : ℕ) → waitsOnb 6 th ≡ true → th .object ≡ n → placedb (Calls.semaphorePlace n) th ≡ true
+unfolding waitsOnb placedb standsb readyb waitsb numberOf
+waits-placed th n w o =
+    let made = and-left (th .created) (eqb (th .state) 6) w in
+    let e = eqb-true (th .state) 6 (and-right (th .created) (eqb (th .state) 6) w) in
+    rw (made, e) (eq-eqb (th .object) n o)
+
+module _ (k : Kernel) (F : Keeps.Fit k) (n : ℕ) where
+  -- where nobody stands in line, and where the record lets nobody wait
+  free-line : ((t : ℕ) → placedb (Calls.semaphorePlace n) (threadOf k t) ≡ false) → Keeps.Free k n
+  free-line none t l w o = never (waits-placed (threadOf k t) n w o) (none t)
+
+  free-record : semaphoreWaitb (semaphoreAt k n) ≡ false → Keeps.Free k n
+  free-record h t l w o =
+      never (ap (λ (x : ℕ). semaphoreWaitb (semaphoreAt k x)) (sym o) ∙ implies-out (waitsOnb 6 (threadOf k t)) (semaphoreWaitb (semaphoreAt k (threadOf k t .object))) (Keeps.asked-semaphore k (threadOf k t) (heldAt k t) (F .waits t l)) w) h
+
+  -- a created semaphore is in the table
+  semaphore-small : semaphoreAt k n .created ≡ true → n < 16
+  unfolding semaphoreAt noSemaphore
+  semaphore-small made =
+      by-test (ltb n 16)
+      (λ w. ltb-true n 16 w)
+      (λ w. never made (ap (λ (x : Semaphore). x .created) (List·getD-eq-default (k .semaphores) noSemaphore (let o = ltb-false n 16 w in let e = F .semaphoresSized in omega (arith, o, e)))))
+
+-- ---- lines of waiters
+placed-made : (n : ℕ) (th : Thread) → placedb (Calls.semaphorePlace n) th ≡ true → th .created ≡ true
+unfolding standsb readyb waitsb
+placed-made n th e =
+    let s = placed-stands (Calls.semaphorePlace n) th e in
+    by-test (readyb th)
+    (λ r. and-left (th .created) (eqb (th .state) 0) r)
+    (λ r. and-left (th .created) (ltb 4 (th .state)) (or-rest (readyb th) (waitsb th) s r))
+
+awake-unplaced : (n : ℕ) (th : Thread) → placedb (Calls.semaphorePlace n) (awake th) ≡ false
+unfolding placedb
+awake-unplaced n th =
+    let l = States.awake-state th in
+    by-test (placedb (Calls.semaphorePlace n) (awake th))
+    (λ e. absurd (let z = eqb-true (awake th .state) 6 (and-right (standsb (awake th)) (eqb (awake th .state) 6) (and-left (standsb (awake th) && eqb (awake th .state) 6) (eqb (numberOf (awake th)) n) e)) in omega (arith, l, z)))
+    (λ e. e)
+
+module _ (k : Kernel) (F : Keeps.Fit k) (n : ℕ) where
+  abbrev line : List ℕ
+  line = lineAt (k .scheduler) (Calls.semaphorePlace n)
+
+  line-made : (u : ℕ) → 0 < count u line → threadOf k u .created ≡ true
+  unfolding oneIf
+  line-made u c =
+      by-test (placedb (Calls.semaphorePlace n) (threadOf k u))
+      (placed-made n (threadOf k u))
+      (λ e. absurd (let z = Orders.line-count (k .scheduler) (F .steady) u (Calls.semaphorePlace n) ∙ ap oneIf e in omega (arith, c, z)))
+
+  line-others : (u : ℕ) → count u line ≡ 0 → placedb (Calls.semaphorePlace n) (threadOf k u) ≡ false
+  unfolding oneIf
+  line-others u c =
+      by-test (placedb (Calls.semaphorePlace n) (threadOf k u))
+      (λ e. absurd (let z = Orders.line-count (k .scheduler) (F .steady) u (Calls.semaphorePlace n) ∙ ap oneIf e in omega (arith, c, z)))
+      (λ e. e)
+
+  -- the waits of all in line end, and the record is zero
+  fit-deleted : n < 16 → Keeps.Fit (withSemaphore (endEach k Statuses.deleted line) n noSemaphore)
+  unfolding noSemaphore
+  fit-deleted small =
+      let G = Keeps.fit-each Statuses.deleted refl k F line line-made in
+      Keeps.fit-semaphore (endEach k Statuses.deleted line) G n noSemaphore small refl
+      (free-line (endEach k Statuses.deleted line) G n
+      (Keeps.each-holds Statuses.deleted refl (λ th. placedb (Calls.semaphorePlace n) th ≡ false) (awake-unplaced n) k F line line-made line-others))
+
+-- ---- the calls
+counting-fit : (c : ℕ) → semaphoreFitb (Calls.counting c) ≡ true
+unfolding Calls.counting
+counting-fit c = refl
+
+module _ (k : Kernel) (S : Sound k) where
+  abbrev F : Keeps.Fit k
+  F = Keeps.fit-of k S
+
+  pub create-sound : (caller n count : ℕ) → Sound (Calls.semaphoreCreate k caller n count .kernel)
+  unfolding Calls.semaphoreCreate semaphoreCreateRefusal semaphoreWaitb
+  create-sound caller n c =
+      Keeps.sound-guarded k S _ _
+      (λ e. let one = unless-none (ltb n 16 && not (semaphoreAt k n .created)) Statuses.semaphoreError (omega arith) (first-none _ _ e) in
+      let new = not-true (semaphoreAt k n .created) (and-right (ltb n 16) (not (semaphoreAt k n .created)) one) in
+      Keeps.sound-carried (withSemaphore k n (Calls.counting c))
+      (Keeps.fit-semaphore k F n (Calls.counting c) (ltb-true n 16 (and-left (ltb n 16) (not (semaphoreAt k n .created)) one)) (counting-fit c) (free-record k F n (rw new)))
+      Statuses.success noWords [])
+
+  pub delete-sound : (caller n : ℕ) → Sound (Calls.semaphoreDelete k caller n .kernel)
+  unfolding Calls.semaphoreDelete semaphoreDeleteRefusal
+  delete-sound caller n =
+      Keeps.sound-guarded k S _ _
+      (λ e. let made = unless-none (semaphoreAt k n .created) Statuses.semaphoreError (omega arith) (first-none _ _ e) in
+      Keeps.sound-carried _ (fit-deleted k F n (semaphore-small k F n made)) Statuses.success noWords (line k F n))
+
+  -- an instance at once, or the caller waits
+  pub get-sound : (caller : ℕ) → (eqb caller 2 ≡ true → runnerOf k < 32) → (n wait : ℕ) → Sound (Calls.semaphoreGet k caller n wait .kernel)
+  unfolding Calls.semaphoreGet semaphoreGetRefusal semaphoreWaitb inState
+  get-sound caller runs n wait =
+      Keeps.sound-guarded k S _ _
+      (λ e. let made = unless-none (semaphoreAt k n .created) Statuses.semaphoreError (omega arith) (first-none _ _ e) in
+      let may = unless-none (eqb wait 0 || eqb caller 2) Statuses.waitError (omega arith) (first-none _ _ (second-none _ _ e)) in
+      let some = unless-none (ltb 0 wait || ltb 0 (semaphoreAt k n .count)) Statuses.noInstance (omega arith) (second-none _ _ (second-none _ _ e)) in
+      by-choice (λ (x : Outcome). Sound (x .kernel)) (ltb 0 (semaphoreAt k n .count)) _ _
+      (λ q. Keeps.sound-carried _
+      (Keeps.fit-semaphore k F n (Calls.counting (semaphoreAt k n .count - 1)) (semaphore-small k F n made) (counting-fit (semaphoreAt k n .count - 1))
+      (free-record k F n (rw (ne-eqb (semaphoreAt k n .count) 0 (λ z. let l = ltb-true 0 (semaphoreAt k n .count) q in omega (arith, l, z))) (none (semaphoreAt k n .created)))))
+      Statuses.success noWords [])
+      (λ q. let pos = ltb-true 0 wait (or-first (ltb 0 wait) (ltb 0 (semaphoreAt k n .count)) some q) in
+      let l = runs (or-rest (eqb wait 0) (eqb caller 2) may (ne-eqb wait 0 (λ z. omega (arith, pos, z)))) in
+      Keeps.sound-carried (startWait k 6 n wait)
+      (Keeps.fit-start k F l (runner-made k S l) 6 n wait (omega arith) (omega arith) (λ z. absurd (omega (arith, z))) (λ z. omega (arith, z)) (λ z. omega (arith, z)) pos
+      (Keeps.wait-semaphore k (inState 6 n wait (threadOf k (runnerOf k))) (holding Statuses.waiting noWords) refl
+      (and-in (semaphoreAt k n .created) (eqb (semaphoreAt k n .count) 0) made (eq-eqb (semaphoreAt k n .count) 0 (let z = ltb-false 0 (semaphoreAt k n .count) q in omega (arith, z))))))
+      Statuses.waiting noWords []))
+    where
+      none : (b : Bool) → (b && false) ≡ false
+      none true = refl
+      none false = refl
+
+      or-first : (a b : Bool) → (a || b) ≡ true → b ≡ false → a ≡ true
+      or-first true b w z = refl
+      or-first false b w z = never w z
+
+  -- the first waiter is served, or one is added
+  put-on-sound : (n : ℕ) → semaphoreAt k n .created ≡ true → Sound (Calls.putOn k n .kernel)
+  unfolding Calls.putOn
+  put-on-sound n made =
+      let first = firstAt (k .scheduler) (Calls.semaphorePlace n) in
+      by-choice (λ (x : Outcome). Sound (x .kernel)) (ltb first 32) _ _
+      (λ q. Keeps.sound-carried _
+      (Keeps.fit-end k F first (placed-made n (threadOf k first) (first-placed (k .scheduler) (Calls.semaphorePlace n) (ltb-true first 32 q))) Statuses.success noWords refl)
+      Statuses.success noWords _)
+      (λ q. Keeps.sound-carried _
+      (Keeps.fit-semaphore k F n (Calls.counting (oneMore (semaphoreAt k n .count))) (semaphore-small k F n made) (counting-fit (oneMore (semaphoreAt k n .count)))
+      (free-line k F n (States.none-placed-there (k .scheduler) (F .steady) (Calls.semaphorePlace n) q)))
+      Statuses.success noWords [])
+
+  pub put-sound : (n : ℕ) → Sound (Calls.semaphorePut k n .kernel)
+  unfolding Calls.semaphorePut semaphoreRefusal
+  put-sound n = Keeps.sound-guarded k S _ _ (λ e. put-on-sound n (unless-none (semaphoreAt k n .created) Statuses.semaphoreError (omega arith) e))
+
+  pub ceiling-sound : (n ceiling : ℕ) → Sound (Calls.semaphoreCeilingPut k n ceiling .kernel)
+  unfolding Calls.semaphoreCeilingPut ceilingRefusal
+  ceiling-sound n ceiling = Keeps.sound-guarded k S _ _ (λ e. put-on-sound n (unless-none (semaphoreAt k n .created) Statuses.semaphoreError (omega arith) (first-none _ _ e)))
+
+  pub prioritize-sound : (n : ℕ) → Sound (Calls.semaphorePrioritize k n .kernel)
+  unfolding Calls.semaphorePrioritize prioritisedAt withOrder threadAt
+  prioritize-sound n =
+      Keeps.sound-guarded k S _ _
+      (λ e. Keeps.sound-carried _
+      (Keeps.fit-scheduler k F (prioritisedAt (k .scheduler) (Calls.semaphorePlace n)) (Orders.prioritised-steady (k .scheduler) (F .steady) (Calls.semaphorePlace n)) (λ u. refl))
+      Statuses.success noWords [])
