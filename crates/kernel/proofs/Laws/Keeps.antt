@@ -427,3 +427,7 @@ sound-guarded k S reason o f = by-choice (λ (x : Outcome). Sound (x .kernel)) (
 pub sound-carried : (k : Kernel) → Fit k → (status : ℕ) (words ended : List ℕ) → Sound (carried k status words ended .kernel)
 unfolding carried
 sound-carried k F status words ended = sound-of k F false
+
+-- a call that is refused for a reason, else carried out
+pub sound-call : (k : Kernel) → Sound k → (reason : ℕ) (x : Kernel) (status : ℕ) (words ended : List ℕ) → (reason ≡ 0 → Fit x) → Sound (guarded k reason (carried x status words ended) .kernel)
+sound-call k S reason x status words ended f = sound-guarded k S reason (carried x status words ended) (λ e. sound-carried x (f e) status words ended)

@@ -1,6 +1,6 @@
 -- Calls 16 to 21 keep soundness.
 use mathlib.Core.Path.{_≡_, refl, sym, ap, _∙_}
-use mathlib.Core.List.{List, []}
+use mathlib.Core.List.{List}
 use mathlib.Core.Bool.{Bool, true, false, _&&_, _||_, not}
 use Prim.Native.Nat.{ℕ, _-_, _<_}
 use native.Mathlib.Omega.{arith}
@@ -18,10 +18,10 @@ use Rattle.scheduler.proofs.Laws.Orders
 use Rattle.scheduler.proofs.Laws.States
 use Rattle.scheduler.proofs.Laws.Fairness.{first-placed}
 use Rattle.objects.specs.declared.semaphore.Semaphore.{Semaphore}
-use Rattle.objects.specs.Semaphores.{noSemaphore, semaphoreFitb}
+use Rattle.objects.specs.Semaphores.{noSemaphore}
 use Rattle.calls.specs.Held.{noWords, holding}
 use Rattle.calls.specs.Statuses as Statuses
-use Rattle.calls.specs.Refusals.{semaphoreCreateRefusal, semaphoreDeleteRefusal, semaphoreGetRefusal, semaphoreRefusal, ceilingRefusal}
+use Rattle.calls.specs.Refusals.{unless, firstOf, semaphoreCreateRefusal, semaphoreDeleteRefusal, semaphoreGetRefusal, semaphoreRefusal, ceilingRefusal}
 use Rattle.kernel.specs.declared.Kernel.{Kernel}
 use Rattle.kernel.specs.Tables.{threadOf, runnerOf, heldAt, semaphoreAt, withSemaphore}
 use Rattle.kernel.specs.Answers.{Outcome}
@@ -102,56 +102,61 @@ module _ (k : Kernel) (F : Keeps.Fit k) (n : ℕ) where
       (Keeps.each-holds Statuses.deleted refl (λ th. placedb (Calls.semaphorePlace n) th ≡ false) (awake-unplaced n) k F line line-made line-others))
 
 -- ---- the calls
-counting-fit : (c : ℕ) → semaphoreFitb (Calls.counting c) ≡ true
-unfolding Calls.counting
-counting-fit c = refl
-
 module _ (k : Kernel) (S : Sound k) where
   abbrev F : Keeps.Fit k
   F = Keeps.fit-of k S
 
+  -- the first reason of most calls: no such semaphore
+  is-made : (n rest : ℕ) → firstOf (unless (semaphoreAt k n .created) Statuses.semaphoreError) rest ≡ 0 → semaphoreAt k n .created ≡ true
+  is-made n rest e = unless-none (semaphoreAt k n .created) Statuses.semaphoreError (omega arith) (first-none _ rest e)
+
+  -- a count on which nobody waits
+  fit-counting : (n count : ℕ) → n < 16 → Keeps.Free k n → Keeps.Fit (withSemaphore k n (Calls.counting count))
+  unfolding Calls.counting
+  fit-counting n c small free = Keeps.fit-semaphore k F n (Calls.counting c) small refl free
+
   pub create-sound : (caller n count : ℕ) → Sound (Calls.semaphoreCreate k caller n count .kernel)
   unfolding Calls.semaphoreCreate semaphoreCreateRefusal semaphoreWaitb
   create-sound caller n c =
-      Keeps.sound-guarded k S _ _
+      Keeps.sound-call k S _ _ _ _ _
       (λ e. let one = unless-none (ltb n 16 && not (semaphoreAt k n .created)) Statuses.semaphoreError (omega arith) (first-none _ _ e) in
       let new = not-true (semaphoreAt k n .created) (and-right (ltb n 16) (not (semaphoreAt k n .created)) one) in
-      Keeps.sound-carried (withSemaphore k n (Calls.counting c))
-      (Keeps.fit-semaphore k F n (Calls.counting c) (ltb-true n 16 (and-left (ltb n 16) (not (semaphoreAt k n .created)) one)) (counting-fit c) (free-record k F n (rw new)))
-      Statuses.success noWords [])
+      fit-counting n c (ltb-true n 16 (and-left (ltb n 16) (not (semaphoreAt k n .created)) one)) (free-record k F n (rw new)))
 
   pub delete-sound : (caller n : ℕ) → Sound (Calls.semaphoreDelete k caller n .kernel)
   unfolding Calls.semaphoreDelete semaphoreDeleteRefusal
-  delete-sound caller n =
-      Keeps.sound-guarded k S _ _
-      (λ e. let made = unless-none (semaphoreAt k n .created) Statuses.semaphoreError (omega arith) (first-none _ _ e) in
-      Keeps.sound-carried _ (fit-deleted k F n (semaphore-small k F n made)) Statuses.success noWords (line k F n))
+  delete-sound caller n = Keeps.sound-call k S _ _ _ _ _ (λ e. fit-deleted k F n (semaphore-small k F n (is-made n _ e)))
 
-  -- an instance at once, or the caller waits
+  -- an instance at once: nobody waits where there is one
+  fit-taken : (n : ℕ) → semaphoreAt k n .created ≡ true → ltb 0 (semaphoreAt k n .count) ≡ true → Keeps.Fit (withSemaphore k n (Calls.counting (semaphoreAt k n .count - 1)))
+  unfolding semaphoreWaitb
+  fit-taken n made q =
+      let l = ltb-true 0 (semaphoreAt k n .count) q in
+      fit-counting n (semaphoreAt k n .count - 1) (semaphore-small k F n made)
+      (free-record k F n (rw (made, ne-eqb (semaphoreAt k n .count) 0 (λ z. omega (arith, l, z)))))
+
+  -- else the caller waits
+  fit-queued : (n wait : ℕ) → semaphoreAt k n .created ≡ true → ltb 0 (semaphoreAt k n .count) ≡ false → runnerOf k < 32 → 0 < wait → Keeps.Fit (startWait k 6 n wait)
+  unfolding semaphoreWaitb inState
+  fit-queued n wait made q l pos =
+      let none = ltb-false 0 (semaphoreAt k n .count) q in
+      Keeps.fit-start k F l (runner-made k S l) 6 n wait (omega arith) (omega arith) (λ z. absurd (omega (arith, z))) (λ z. omega (arith, z)) (λ z. omega (arith, z)) pos
+      (Keeps.wait-semaphore k (inState 6 n wait (threadOf k (runnerOf k))) (holding Statuses.waiting noWords) refl
+      (and-in (semaphoreAt k n .created) (eqb (semaphoreAt k n .count) 0) made (eq-eqb (semaphoreAt k n .count) 0 (omega (arith, none)))))
+
   pub get-sound : (caller : ℕ) → (eqb caller 2 ≡ true → runnerOf k < 32) → (n wait : ℕ) → Sound (Calls.semaphoreGet k caller n wait .kernel)
-  unfolding Calls.semaphoreGet semaphoreGetRefusal semaphoreWaitb inState
+  unfolding Calls.semaphoreGet semaphoreGetRefusal
   get-sound caller runs n wait =
       Keeps.sound-guarded k S _ _
-      (λ e. let made = unless-none (semaphoreAt k n .created) Statuses.semaphoreError (omega arith) (first-none _ _ e) in
+      (λ e. let made = is-made n _ e in
       let may = unless-none (eqb wait 0 || eqb caller 2) Statuses.waitError (omega arith) (first-none _ _ (second-none _ _ e)) in
       let some = unless-none (ltb 0 wait || ltb 0 (semaphoreAt k n .count)) Statuses.noInstance (omega arith) (second-none _ _ (second-none _ _ e)) in
       by-choice (λ (x : Outcome). Sound (x .kernel)) (ltb 0 (semaphoreAt k n .count)) _ _
-      (λ q. Keeps.sound-carried _
-      (Keeps.fit-semaphore k F n (Calls.counting (semaphoreAt k n .count - 1)) (semaphore-small k F n made) (counting-fit (semaphoreAt k n .count - 1))
-      (free-record k F n (rw (ne-eqb (semaphoreAt k n .count) 0 (λ z. let l = ltb-true 0 (semaphoreAt k n .count) q in omega (arith, l, z))) (none (semaphoreAt k n .created)))))
-      Statuses.success noWords [])
+      (λ q. Keeps.sound-carried _ (fit-taken n made q) _ _ _)
       (λ q. let pos = ltb-true 0 wait (or-first (ltb 0 wait) (ltb 0 (semaphoreAt k n .count)) some q) in
       let l = runs (or-rest (eqb wait 0) (eqb caller 2) may (ne-eqb wait 0 (λ z. omega (arith, pos, z)))) in
-      Keeps.sound-carried (startWait k 6 n wait)
-      (Keeps.fit-start k F l (runner-made k S l) 6 n wait (omega arith) (omega arith) (λ z. absurd (omega (arith, z))) (λ z. omega (arith, z)) (λ z. omega (arith, z)) pos
-      (Keeps.wait-semaphore k (inState 6 n wait (threadOf k (runnerOf k))) (holding Statuses.waiting noWords) refl
-      (and-in (semaphoreAt k n .created) (eqb (semaphoreAt k n .count) 0) made (eq-eqb (semaphoreAt k n .count) 0 (let z = ltb-false 0 (semaphoreAt k n .count) q in omega (arith, z))))))
-      Statuses.waiting noWords []))
+      Keeps.sound-carried _ (fit-queued n wait made q l pos) _ _ _))
     where
-      none : (b : Bool) → (b && false) ≡ false
-      none true = refl
-      none false = refl
-
       or-first : (a b : Bool) → (a || b) ≡ true → b ≡ false → a ≡ true
       or-first true b w z = refl
       or-first false b w z = never w z
@@ -162,13 +167,10 @@ module _ (k : Kernel) (S : Sound k) where
   put-on-sound n made =
       let first = firstAt (k .scheduler) (Calls.semaphorePlace n) in
       by-choice (λ (x : Outcome). Sound (x .kernel)) (ltb first 32) _ _
-      (λ q. Keeps.sound-carried _
-      (Keeps.fit-end k F first (placed-made n (threadOf k first) (first-placed (k .scheduler) (Calls.semaphorePlace n) (ltb-true first 32 q))) Statuses.success noWords refl)
-      Statuses.success noWords _)
-      (λ q. Keeps.sound-carried _
-      (Keeps.fit-semaphore k F n (Calls.counting (oneMore (semaphoreAt k n .count))) (semaphore-small k F n made) (counting-fit (oneMore (semaphoreAt k n .count)))
-      (free-line k F n (States.none-placed-there (k .scheduler) (F .steady) (Calls.semaphorePlace n) q)))
-      Statuses.success noWords [])
+      (λ q. let there = first-placed (k .scheduler) (Calls.semaphorePlace n) (ltb-true first 32 q) in
+      Keeps.sound-carried _ (Keeps.fit-end k F first (placed-made n (threadOf k first) there) Statuses.success noWords refl) _ _ _)
+      (λ q. let none = States.none-placed-there (k .scheduler) (F .steady) (Calls.semaphorePlace n) q in
+      Keeps.sound-carried _ (fit-counting n (oneMore (semaphoreAt k n .count)) (semaphore-small k F n made) (free-line k F n none)) _ _ _)
 
   pub put-sound : (n : ℕ) → Sound (Calls.semaphorePut k n .kernel)
   unfolding Calls.semaphorePut semaphoreRefusal
@@ -176,12 +178,10 @@ module _ (k : Kernel) (S : Sound k) where
 
   pub ceiling-sound : (n ceiling : ℕ) → Sound (Calls.semaphoreCeilingPut k n ceiling .kernel)
   unfolding Calls.semaphoreCeilingPut ceilingRefusal
-  ceiling-sound n ceiling = Keeps.sound-guarded k S _ _ (λ e. put-on-sound n (unless-none (semaphoreAt k n .created) Statuses.semaphoreError (omega arith) (first-none _ _ e)))
+  ceiling-sound n ceiling = Keeps.sound-guarded k S _ _ (λ e. put-on-sound n (is-made n _ e))
 
   pub prioritize-sound : (n : ℕ) → Sound (Calls.semaphorePrioritize k n .kernel)
   unfolding Calls.semaphorePrioritize prioritisedAt withOrder threadAt
   prioritize-sound n =
-      Keeps.sound-guarded k S _ _
-      (λ e. Keeps.sound-carried _
-      (Keeps.fit-scheduler k F (prioritisedAt (k .scheduler) (Calls.semaphorePlace n)) (Orders.prioritised-steady (k .scheduler) (F .steady) (Calls.semaphorePlace n)) (λ u. refl))
-      Statuses.success noWords [])
+      Keeps.sound-call k S _ _ _ _ _
+      (λ e. Keeps.fit-scheduler k F (prioritisedAt (k .scheduler) (Calls.semaphorePlace n)) (Orders.prioritised-steady (k .scheduler) (F .steady) (Calls.semaphorePlace n)) (λ u. refl))

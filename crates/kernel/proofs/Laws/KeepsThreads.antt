@@ -1,6 +1,5 @@
 -- Calls 1 to 12, 38 and 39 keep soundness.
 use mathlib.Core.Path.{_≡_, refl}
-use mathlib.Core.List.{[], _∷_}
 use mathlib.Core.Bool.{Bool, true, false, _&&_, _||_, not}
 use Prim.Native.Nat.{ℕ, _≤_, _<_}
 use native.Mathlib.Omega.{arith}
@@ -20,7 +19,7 @@ use Rattle.scheduler.proofs.Laws.Changing
 use Rattle.scheduler.proofs.Laws.States
 use Rattle.calls.specs.Held.{noWords, holding, noHeld}
 use Rattle.calls.specs.Statuses as Statuses
-use Rattle.calls.specs.Refusals.{finishedb, createRefusal, deleteRefusal, resumeRefusal, suspendRefusal, terminateRefusal, resetRefusal, threadOnlyRefusal, abortRefusal, priorityRefusal, preemptionRefusal}
+use Rattle.calls.specs.Refusals.{unless, firstOf, finishedb, createRefusal, deleteRefusal, resumeRefusal, suspendRefusal, terminateRefusal, resetRefusal, threadOnlyRefusal, abortRefusal, priorityRefusal, preemptionRefusal}
 use Rattle.kernel.specs.declared.Kernel.{Kernel}
 use Rattle.kernel.specs.Tables.{threadOf, runnerOf, heldAt, withScheduler, given}
 use Rattle.kernel.specs.Answers.{Outcome}
@@ -98,6 +97,10 @@ module _ (k : Kernel) (S : Sound k) where
   abbrev F : Keeps.Fit k
   F = Keeps.fit-of k S
 
+  -- the first reason of most calls: no such thread
+  is-made : (t rest : ℕ) → firstOf (unless (threadOf k t .created) Statuses.threadError) rest ≡ 0 → threadOf k t .created ≡ true
+  is-made t rest e = unless-none (threadOf k t .created) Statuses.threadError (omega arith) (first-none _ rest e)
+
   start-low : (b : Bool) → (if b then 0 else 3) < 4
   start-low true = omega arith
   start-low false = omega arith
@@ -105,103 +108,92 @@ module _ (k : Kernel) (S : Sound k) where
   pub create-sound : (caller t p h start : ℕ) → Sound (Calls.threadCreate k caller t p h start .kernel)
   unfolding Calls.threadCreate createRefusal created
   create-sound caller t p h start =
-      Keeps.sound-guarded k S _ _
-      (λ e. let state = if eqb start 1 then 0 else 3 in
+      Keeps.sound-call k S _ _ _ _ _
+      (λ e. let new = created (if eqb start 1 then 0 else 3) p h in
       let one = unless-none (ltb t 32 && not (threadOf k t .created)) Statuses.threadError (omega arith) (first-none _ _ e) in
       let e2 = second-none _ _ e in
       let low = ltb-true p 32 (unless-none (ltb p 32) Statuses.priorityError (omega arith) (first-none _ _ e2)) in
       let under = leb-true h p (unless-none (leb h p) Statuses.threshError (omega arith) (first-none _ _ (second-none _ _ e2))) in
       let l = start-low (eqb start 1) in
-      Keeps.sound-carried (given k t (created state p h) noHeld)
-      (Keeps.fit-given k F t (created state p h) noHeld
+      Keeps.fit-given k F t new noHeld
       (ltb-true t 32 (and-left (ltb t 32) (not (threadOf k t .created)) one))
-      (States.fit-new state p h l low under)
-      (Keeps.held-status (created state p h) refl l 0 noWords refl)
-      (Keeps.wait-none k (created state p h) noHeld (omega (arith, l))))
-      Statuses.success noWords [])
+      (States.fit-new (if eqb start 1 then 0 else 3) p h l low under)
+      (Keeps.held-status new refl l 0 noWords refl)
+      (Keeps.wait-none k new noHeld (omega (arith, l))))
 
   pub delete-sound : (caller t : ℕ) → Sound (Calls.threadDelete k caller t .kernel)
   unfolding Calls.threadDelete deleteRefusal uncreated
   delete-sound caller t =
-      Keeps.sound-guarded k S _ _
-      (λ e. let made = unless-none (threadOf k t .created) Statuses.threadError (omega arith) (first-none _ _ e) in
-      Keeps.sound-carried (given k t uncreated noHeld)
-      (Keeps.fit-given k F t uncreated noHeld (small k F t made) States.fit-none Keeps.held-none (Keeps.wait-none k uncreated noHeld (omega arith)))
-      Statuses.success noWords [])
+      Keeps.sound-call k S _ _ _ _ _
+      (λ e. Keeps.fit-given k F t uncreated noHeld (small k F t (is-made t _ e)) States.fit-none Keeps.held-none (Keeps.wait-none k uncreated noHeld (omega arith)))
+
+  -- who can be resumed and holds no suspension is suspended
+  suspended-low : (th : Thread) → th .suspending ≡ false → (eqb (th .state) 3 || th .suspending) ≡ true → th .state < 4
+  suspended-low th n w =
+      by-test (eqb (th .state) 3)
+      (λ q. let z = eqb-true (th .state) 3 q in omega (arith, z))
+      (λ q. never (or-rest (eqb (th .state) 3) (th .suspending) w q) n)
 
   pub resume-sound : (t : ℕ) → Sound (Calls.threadResume k t .kernel)
   unfolding Calls.threadResume Calls.lifted Calls.resumed resumeRefusal
   resume-sound t =
       Keeps.sound-guarded k S _ _
-      (λ e. let made = unless-none (threadOf k t .created) Statuses.threadError (omega arith) (first-none _ _ e) in
+      (λ e. let made = is-made t _ e in
+      let may = unless-none _ Statuses.resumeError (omega arith) (second-none _ _ e) in
       by-choice (λ (x : Outcome). Sound (x .kernel)) (threadOf k t .suspending) (Calls.lifted k t) (Calls.resumed k t)
-      (λ q. Keeps.sound-carried _ (fit-suspension k F t made false (λ w. never w refl)) Statuses.suspendLifted noWords [])
-      (λ q. Keeps.sound-carried _ (fit-rested k F t made 0 (omega arith) (suspended-low t q (unless-none _ Statuses.resumeError (omega arith) (second-none _ _ e)))) Statuses.success noWords []))
-    where
-      suspended-low : (u : ℕ) → threadOf k u .suspending ≡ false → (eqb (threadOf k u .state) 3 || threadOf k u .suspending) ≡ true → threadOf k u .state < 4
-      suspended-low u n w =
-          by-test (eqb (threadOf k u .state) 3)
-          (λ q. let z = eqb-true (threadOf k u .state) 3 q in omega (arith, z))
-          (λ q. never (or-rest (eqb (threadOf k u .state) 3) (threadOf k u .suspending) w q) n)
+      (λ q. Keeps.sound-carried _ (fit-suspension k F t made false (λ w. never w refl)) _ _ _)
+      (λ q. Keeps.sound-carried _ (fit-rested k F t made 0 (omega arith) (suspended-low (threadOf k t) q may)) _ _ _))
+
+  ready-low : (th : Thread) → readyb th ≡ true → th .state < 4
+  unfolding readyb
+  ready-low th r = let z = eqb-true (th .state) 0 (and-right (th .created) (eqb (th .state) 0) r) in omega (arith, z)
 
   pub suspend-sound : (t : ℕ) → Sound (Calls.threadSuspend k t .kernel)
-  unfolding Calls.threadSuspend suspendRefusal readyb
+  unfolding Calls.threadSuspend suspendRefusal
   suspend-sound t =
       Keeps.sound-guarded k S _ _
-      (λ e. let made = unless-none (threadOf k t .created) Statuses.threadError (omega arith) (first-none _ _ e) in
+      (λ e. let made = is-made t _ e in
       by-choice (λ (x : Outcome). Sound (x .kernel)) (pausedb (threadOf k t)) _ _
-      (λ q. Keeps.sound-carried _ (fit-suspension k F t made true (λ w. q)) Statuses.success noWords [])
+      (λ q. Keeps.sound-carried _ (fit-suspension k F t made true (λ w. q)) _ _ _)
       (λ q. by-choice (λ (x : Outcome). Sound (x .kernel)) (readyb (threadOf k t)) _ _
-      (λ r. Keeps.sound-carried _ (fit-rested k F t made 3 (omega arith)
-      (let z = eqb-true (threadOf k t .state) 0 (and-right (threadOf k t .created) (eqb (threadOf k t .state) 0) r) in omega (arith, z))) Statuses.success noWords [])
-      (λ r. Keeps.sound-carried k F Statuses.success noWords [])))
+      (λ r. Keeps.sound-carried _ (fit-rested k F t made 3 (omega arith) (ready-low (threadOf k t) r)) _ _ _)
+      (λ r. Keeps.sound-carried k F _ _ _)))
 
   pub terminate-sound : (caller t : ℕ) → Sound (Calls.threadTerminate k caller t .kernel)
   unfolding Calls.threadTerminate terminateRefusal
   terminate-sound caller t =
       Keeps.sound-guarded k S _ _
-      (λ e. let made = unless-none (threadOf k t .created) Statuses.threadError (omega arith) (first-none _ _ e) in
-      by-choice (λ (x : Outcome). Sound (x .kernel)) (finishedb (threadOf k t)) _ _
-      (λ q. Keeps.sound-carried k F Statuses.success noWords [])
-      (λ q. Keeps.sound-carried _ (fit-cleared k F t made 2 (omega arith)) Statuses.success noWords []))
+      (λ e. by-choice (λ (x : Outcome). Sound (x .kernel)) (finishedb (threadOf k t)) _ _
+      (λ q. Keeps.sound-carried k F _ _ _)
+      (λ q. Keeps.sound-carried _ (fit-cleared k F t (is-made t _ e) 2 (omega arith)) _ _ _))
 
   pub reset-sound : (caller t : ℕ) → Sound (Calls.threadReset k caller t .kernel)
   unfolding Calls.threadReset resetRefusal
-  reset-sound caller t =
-      Keeps.sound-guarded k S _ _
-      (λ e. let made = unless-none (threadOf k t .created) Statuses.threadError (omega arith) (first-none _ _ e) in
-      Keeps.sound-carried _ (fit-cleared k F t made 3 (omega arith)) Statuses.success noWords [])
+  reset-sound caller t = Keeps.sound-call k S _ _ _ _ _ (λ e. fit-cleared k F t (is-made t _ e) 3 (omega arith))
 
   pub abort-sound : (t : ℕ) → Sound (Calls.threadWaitAbort k t .kernel)
   unfolding Calls.threadWaitAbort abortRefusal
-  abort-sound t =
-      Keeps.sound-guarded k S _ _
-      (λ e. let made = unless-none (threadOf k t .created) Statuses.threadError (omega arith) (first-none _ _ e) in
-      Keeps.sound-carried _ (Keeps.fit-end k F t made Statuses.waitAborted noWords refl) Statuses.success noWords (t ∷ []))
+  abort-sound t = Keeps.sound-call k S _ _ _ _ _ (λ e. Keeps.fit-end k F t (is-made t _ e) Statuses.waitAborted noWords refl)
 
   pub priority-sound : (caller t p : ℕ) → Sound (Calls.threadPriorityChange k caller t p .kernel)
   unfolding Calls.threadPriorityChange priorityRefusal
   priority-sound caller t p =
-      Keeps.sound-guarded k S _ _
-      (λ e. let made = unless-none (threadOf k t .created) Statuses.threadError (omega arith) (first-none _ _ e) in
-      let low = ltb-true p 32 (unless-none (ltb p 32) Statuses.priorityError (omega arith) (first-none _ _ (second-none _ _ e))) in
-      Keeps.sound-carried _ (fit-priority k F t made p low) Statuses.success _ [])
+      Keeps.sound-call k S _ _ _ _ _
+      (λ e. fit-priority k F t (is-made t _ e) p (ltb-true p 32 (unless-none (ltb p 32) Statuses.priorityError (omega arith) (first-none _ _ (second-none _ _ e)))))
 
   pub preemption-sound : (caller t h : ℕ) → Sound (Calls.threadPreemptionChange k caller t h .kernel)
   unfolding Calls.threadPreemptionChange preemptionRefusal
   preemption-sound caller t h =
-      Keeps.sound-guarded k S _ _
-      (λ e. let made = unless-none (threadOf k t .created) Statuses.threadError (omega arith) (first-none _ _ e) in
-      let le = leb-true h (threadOf k t .priority) (unless-none (leb h (threadOf k t .priority)) Statuses.threshError (omega arith) (first-none _ _ (second-none _ _ e))) in
-      Keeps.sound-carried _ (fit-preemption k F t made h le) Statuses.success _ [])
+      Keeps.sound-call k S _ _ _ _ _
+      (λ e. fit-preemption k F t (is-made t _ e) h (leb-true h (threadOf k t .priority) (unless-none _ Statuses.threshError (omega arith) (first-none _ _ (second-none _ _ e)))))
 
   pub read-sound : (t : ℕ) → Sound (Calls.threadStateRead k t .kernel)
   unfolding Calls.threadStateRead
-  read-sound t = Keeps.sound-guarded k S _ _ (λ e. Keeps.sound-carried k F Statuses.success _ [])
+  read-sound t = Keeps.sound-call k S _ _ _ _ _ (λ e. F)
 
   pub words-sound : (t : ℕ) → Sound (Calls.threadWordsRead k t .kernel)
   unfolding Calls.threadWordsRead
-  words-sound t = Keeps.sound-guarded k S _ _ (λ e. Keeps.sound-carried k F Statuses.success _ [])
+  words-sound t = Keeps.sound-call k S _ _ _ _ _ (λ e. F)
 
   -- ---- the calls of the running thread
   module _ (caller : ℕ) (runs : eqb caller 2 ≡ true → runnerOf k < 32) where
@@ -211,10 +203,9 @@ module _ (k : Kernel) (S : Sound k) where
 
     pub finish-sound : Sound (Calls.threadFinish k caller .kernel)
     unfolding Calls.threadFinish
-    finish-sound =
-        Keeps.sound-guarded k S _ _
-        (λ e. Keeps.sound-carried _ (fit-cleared k F (runnerOf k) (runner-made k S (runner-small e)) 1 (omega arith)) Statuses.success noWords [])
+    finish-sound = Keeps.sound-call k S _ _ _ _ _ (λ e. fit-cleared k F (runnerOf k) (runner-made k S (runner-small e)) 1 (omega arith))
 
+    -- it keeps its record, and the choice is another
     pub relinquish-sound : Sound (Calls.threadRelinquish k caller .kernel)
     unfolding Calls.threadRelinquish relinquished withScheduler
     relinquish-sound =
@@ -229,12 +220,10 @@ module _ (k : Kernel) (S : Sound k) where
         Keeps.sound-guarded k S _ _
         (λ e. let l = runner-small e in
         by-choice (λ (x : Outcome). Sound (x .kernel)) (eqb ticks 0) _ _
-        (λ q. Keeps.sound-carried k F Statuses.success noWords [])
-        (λ q. Keeps.sound-carried (startWait k 4 0 ticks)
+        (λ q. Keeps.sound-carried k F _ _ _)
+        (λ q. let some = eqb-false ticks 0 q in
+        Keeps.sound-carried (startWait k 4 0 ticks)
         (Keeps.fit-start k F l (runner-made k S l) 4 0 ticks (omega arith) (omega arith) (λ z. refl) (λ z. omega (arith, z)) (λ z. omega (arith, z))
-        (above ticks (eqb-false ticks 0 q))
+        (omega (arith, some))
         (Keeps.wait-none k (inState 4 0 ticks (threadOf k (runnerOf k))) (holding Statuses.waiting noWords) (omega arith)))
-        Statuses.waiting noWords []))
-      where
-        above : (n : ℕ) → (n ≡ 0 → ⊥) → 0 < n
-        above n o = omega (arith, o)
+        _ _ _))

@@ -1,6 +1,5 @@
 -- Calls 13 to 15 keep soundness.
 use mathlib.Core.Path.{_≡_, refl}
-use mathlib.Core.List.{[]}
 use mathlib.Core.Bool.{true, false, _||_, not}
 use Prim.Native.Nat.{ℕ, zero, suc, _-_, _<_}
 use native.Mathlib.Omega.{arith}
@@ -16,11 +15,11 @@ use Rattle.scheduler.proofs.Laws.Threads.{fit-parts, fit-from}
 use Rattle.scheduler.proofs.Laws.Orders
 use Rattle.scheduler.proofs.Laws.States
 use Rattle.calls.specs.declared.held.Held.{Held}
-use Rattle.calls.specs.Held.{noWords, oneWord}
+use Rattle.calls.specs.Held.{noWords}
 use Rattle.calls.specs.Statuses as Statuses
 use Rattle.kernel.specs.declared.Kernel.{Kernel}
-use Rattle.kernel.specs.Tables.{threadOf, heldAt, withScheduler, withClock}
-use Rattle.kernel.specs.Waits.{timedb, timeoutStatus, withTicks, lastTickb, tickOne, tickBelow, timedOut, oneMore, ticked}
+use Rattle.kernel.specs.Tables.{threadOf, heldAt, withScheduler}
+use Rattle.kernel.specs.Waits.{timedb, timeoutStatus, withTicks, lastTickb, tickOne, tickBelow, oneMore, ticked}
 use Rattle.kernel.specs.Clock.{timeGet, timeSet, tick}
 use Rattle.kernel.specs.Sound.{Sound}
 use Rattle.kernel.proofs.Laws.Waits.{tick-last, tick-timed, tick-none, ticks-left}
@@ -97,14 +96,12 @@ fit-below (suc n) k F = fit-tick (tickBelow n k) (fit-below n k F) n
 module _ (k : Kernel) (S : Sound k) where
   pub get-sound : Sound (timeGet k .kernel)
   unfolding timeGet
-  get-sound = Keeps.sound-carried k (Keeps.fit-of k S) Statuses.success (oneWord (k .clock)) []
+  get-sound = Keeps.sound-carried k (Keeps.fit-of k S) _ _ _
 
   pub set-sound : (time : ℕ) → Sound (timeSet k time .kernel)
   unfolding timeSet
-  set-sound time = Keeps.sound-carried (withClock k time) (Keeps.fit-clock k (Keeps.fit-of k S) time) Statuses.success noWords []
+  set-sound time = Keeps.sound-carried _ (Keeps.fit-clock k (Keeps.fit-of k S) time) _ _ _
 
   pub tick-sound : (caller : ℕ) → Sound (tick k caller .kernel)
   unfolding tick ticked
-  tick-sound caller =
-      Keeps.sound-guarded k S _ _
-      (λ e. Keeps.sound-carried (ticked k) (Keeps.fit-clock (tickBelow 32 k) (fit-below 32 k (Keeps.fit-of k S)) (oneMore (k .clock))) Statuses.success noWords (timedOut 32 k))
+  tick-sound caller = Keeps.sound-call k S _ _ _ _ _ (λ e. Keeps.fit-clock (tickBelow 32 k) (fit-below 32 k (Keeps.fit-of k S)) (oneMore (k .clock)))

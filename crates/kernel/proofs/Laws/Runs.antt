@@ -13,7 +13,13 @@ use Rattle.tape.specs.declared.Record.{Record}
 use Rattle.tape.specs.Tapes.{noRecord, countOf, recordAt, recordsOf}
 use Rattle.tape.proofs.Laws.Tapes.{length-records, record-in}
 use Rattle.kernel.specs.declared.Kernel.{Kernel}
+use Rattle.lines.specs.Logic.{if_then_else_}
+use mathlib.Core.Bool.{Bool, false}
+use Rattle.kernel.specs.Answers.{answerOf}
+use Rattle.kernel.specs.General.{step, unsound, call}
+use Rattle.kernel.specs.Sound.{soundb, Sound}
 use Rattle.kernel.specs.Runs.{afterRecord, afterRecords}
+use Rattle.kernel.proofs.Laws.Sound.{passes}
 
 after-last : (k : Kernel) (ms : List ℕ) (rs : List Record) (r : Record) → afterRecords k ms (rs ++ (r ∷ [])) ≡ afterRecord (afterRecords k ms rs) ms r
 unfolding afterRecords
@@ -38,3 +44,18 @@ take-smaller most bytes =
     (λ w. let l = ltb-true most (countOf bytes) w in ap (λ (m : ℕ). take m (recordsOf bytes)) (let e : min most (countOf bytes) ≡ most = omega (arith, l) in e))
     (λ w. let l = ltb-false most (countOf bytes) w in
     take-all (min most (countOf bytes)) (recordsOf bytes) (omega (arith, n, l)) ∙ sym (take-all most (recordsOf bytes) (omega (arith, n, l))))
+
+-- on unsound tables each record answers 0x100 and changes nothing
+unsound-same : (k : Kernel) (ms : List ℕ) (r : Record) → soundb k ≡ false → afterRecord k ms r ≡ k
+unfolding afterRecord call unsound
+unsound-same k ms r e = ap (λ (b : Bool). (if b then answerOf (step k (r .call) (r .caller) (r .a) (r .b) (r .c) (r .d)) else unsound k) .kernel) e
+
+pub unsound-all : (k : Kernel) (ms : List ℕ) (rs : List Record) → soundb k ≡ false → afterRecords k ms rs ≡ k
+unfolding afterRecords
+unsound-all k ms [] e = refl
+unsound-all k ms (r ∷ rs) e = ap (λ (x : Kernel). afterRecords x ms rs) (unsound-same k ms r e) ∙ unsound-all k ms rs e
+
+-- on sound ones it is the step
+pub sound-record : (k : Kernel) (ms : List ℕ) (r : Record) → Sound k → step k (r .call) (r .caller) (r .a) (r .b) (r .c) (r .d) .kernel ≡ afterRecord k ms r
+unfolding afterRecord call answerOf
+sound-record k ms r S = sym (ap (λ (b : Bool). (if b then answerOf (step k (r .call) (r .caller) (r .a) (r .b) (r .c) (r .d)) else unsound k) .kernel) (passes k S))
