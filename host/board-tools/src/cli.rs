@@ -225,11 +225,11 @@ fn decode(name: &str, bytes: &[u8]) -> Result<Tape, Stop> {
         .or_else(|_| bad(format!("{name} is not a tape: {}", explain_refusal(bytes))))
 }
 
-/// Whether bytes that are no tape look like text: no control characters but
-/// tabs and line ends.
+/// Whether bytes that are no tape look like text: UTF-8 with no control
+/// characters but tabs and line ends.
 fn looks_like_text(bytes: &[u8]) -> bool {
     let control = |&byte: &u8| byte < b' ' && !matches!(byte, b'\t' | b'\n' | b'\r');
-    !bytes.is_empty() && !bytes.iter().any(control)
+    !bytes.is_empty() && std::str::from_utf8(bytes).is_ok() && !bytes.iter().any(control)
 }
 
 /// A tape, or a text that is assembled; the text's lines, if it is one.
