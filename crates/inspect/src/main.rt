@@ -1,0 +1,100 @@
+// Runs a call tape from nothing created, and prints the tables before the first call, and for each call the call itself, its result and the
+// tables after it.
+use kernel::Answer;
+use kernel::Kernel;
+use lines::ThreadId;
+use output::flush;
+use output::put_byte;
+use tables::put_tables;
+use tape::Record;
+use text::put_field;
+use text::put_refused;
+use text::put_thread;
+use text::put_words;
+
+mod tables;
+
+// One call of the tape. The message words are those that a send takes its message from.
+fn carried_out(k: Kernel, r: Record, words: &[u32]) -> Answer {
+    k.call(r.call, r.caller, r.a, r.b, r.c, r.d, words)
+}
+
+fn put_arguments(buf: &mut [u8], at: usize, r: Record) -> usize {
+    let at = put_field(buf, at, b" ", r.a);
+    let at = put_field(buf, at, b" ", r.b);
+    let at = put_field(buf, at, b" ", r.c);
+    put_field(buf, at, b" ", r.d)
+}
+
+fn put_call(buf: &mut [u8], at: usize, i: u32, r: Record) -> usize {
+    let at = put_field(buf, at, b"call ", i);
+    let at = put_field(buf, at, b" ", r.call);
+    let at = put_field(buf, at, b" ", r.caller);
+    let at = put_arguments(buf, at, r);
+    put_byte(buf, at, b'\n')
+}
+
+fn put_answer(buf: &mut [u8], at: usize, status: u32, next: ThreadId, ended: u32) -> usize {
+    let at = put_field(buf, at, b"result ", status);
+    let at = put_byte(buf, at, b' ');
+    let at = put_thread(buf, at, next);
+    put_field(buf, at, b" ", ended)
+}
+
+fn put_result(
+    buf: &mut [u8],
+    at: usize,
+    status: u32,
+    next: ThreadId,
+    ended: u32,
+    words: &[u32; 16],
+) -> usize {
+    let at = put_answer(buf, at, status, next, ended);
+    let at = put_byte(buf, at, b' ');
+    let at = put_words(buf, at, words, b' ');
+    put_byte(buf, at, b'\n')
+}
+
+// Every call of a tape that is not refused.
+fn put_calls(buf: &mut [u8], at: usize, bytes: &[u8], words: &[u32]) -> usize {
+    let n = tape::count(bytes);
+    let mut k = Kernel::start();
+    let mut to = put_tables(buf, at, k);
+    let mut i: u32 = 0;
+    while i < n {
+        let r = tape::record_at(bytes, i as usize);
+        let answer = carried_out(k, r, words);
+        k = answer.kernel;
+        let given = answer.words;
+        to = put_call(buf, to, i, r);
+        to = put_result(buf, to, answer.status, answer.next, answer.ended, &given);
+        to = put_tables(buf, to, k);
+        i += 1;
+    }
+    to
+}
+
+fn put_run(buf: &mut [u8], bytes: &[u8]) -> usize {
+    if tape::is_refused(bytes) {
+        return put_refused(buf, 0);
+    }
+    let words = tape::messages(bytes);
+    let m = tape::message_count(bytes) as usize;
+    put_calls(buf, 0, bytes, &words[..m])
+}
+
+fn inspect(bytes: &[u8]) {
+    let mut buf = io::large_buffer();
+    let at = put_run(&mut buf, bytes);
+    flush(&mut buf, at);
+}
+
+fn main() {
+    let fd = text::input::open();
+    if fd < 0 {
+        return;
+    }
+    let mut bytes = io::large_buffer();
+    let n = io::read_full(fd, &mut bytes);
+    inspect(&bytes[..n]);
+}

@@ -1,0 +1,167 @@
+// Objects and the orders of their waiters as text.
+ghost use Prim.Native.Nat.{_≤_};
+use super::put_field;
+use super::put_line;
+use super::put_numbers;
+use super::put_separator;
+use super::wide_word;
+use lines::Line;
+use objects::group::Group;
+use objects::pool::Pool;
+use objects::queue::Queue;
+use objects::semaphore::Semaphore;
+use output::put_byte;
+use output::put_decimal;
+use output::put_text;
+use scheduler::Scheduler;
+use scheduler::thread::ON_BLOCK;
+use scheduler::thread::ON_FLAGS;
+use scheduler::thread::ON_QUEUE;
+use scheduler::thread::ON_SEMAPHORE;
+use scheduler::thread::Place;
+
+fn least(x: usize, y: usize) -> usize
+    ensures { λ r. ⌜ r ≤ y ⌝ }
+{
+    if x < y { x } else { y }
+}
+
+fn put_semaphore(buf: &mut [u8], at: usize, n: u32, x: Semaphore, l: Line) -> usize {
+    if !x.created {
+        return at;
+    }
+    let at = put_field(buf, at, b"sem ", n);
+    let at = put_field(buf, at, b" count=", x.count);
+    put_line(buf, at, l)
+}
+
+pub fn put_semaphores(buf: &mut [u8], at: usize, all: [Semaphore; 16], s: Scheduler) -> usize {
+    let mut to = at;
+    let mut n: usize = 0;
+    while n < 16 {
+        let l = s.line_at(Place {
+            state: ON_SEMAPHORE,
+            number: n as u8,
+        });
+        to = put_semaphore(buf, to, n as u32, all[n], l);
+        n += 1;
+    }
+    to
+}
+
+// What stands before word i of a queue's store.
+fn separator(i: usize, words: usize) -> u8 {
+    if words == 0 {
+        return b',';
+    }
+    if i % words == 0 { b'|' } else { b',' }
+}
+
+// The stored messages, oldest first.
+fn put_stored(buf: &mut [u8], at: usize, q: Queue) -> usize {
+    let store = q.store;
+    let words = q.words as usize;
+    let n = least(words * (q.stored as usize), 64);
+    let mut to = at;
+    let mut i: usize = 0;
+    while i < n {
+        to = put_separator(buf, to, i, separator(i, words));
+        to = put_decimal(buf, to, wide_word(store[i]));
+        i += 1;
+    }
+    to
+}
+
+fn put_queue_sizes(buf: &mut [u8], at: usize, n: u32, q: Queue) -> usize {
+    let at = put_field(buf, at, b"queue ", n);
+    let at = put_field(buf, at, b" size=", q.words as u32);
+    let at = put_field(buf, at, b" storage=", q.storage as u32);
+    put_field(buf, at, b" cap=", q.capacity() as u32)
+}
+
+fn put_queue(buf: &mut [u8], at: usize, n: u32, q: Queue, l: Line) -> usize {
+    if !q.created {
+        return at;
+    }
+    let at = put_queue_sizes(buf, at, n, q);
+    let at = put_text(buf, at, b" stored=[");
+    let at = put_stored(buf, at, q);
+    let at = put_byte(buf, at, b']');
+    put_line(buf, at, l)
+}
+
+pub fn put_queues(buf: &mut [u8], at: usize, all: [Queue; 8], s: Scheduler) -> usize {
+    let mut to = at;
+    let mut n: usize = 0;
+    while n < 8 {
+        let l = s.line_at(Place {
+            state: ON_QUEUE,
+            number: n as u8,
+        });
+        to = put_queue(buf, to, n as u32, all[n], l);
+        n += 1;
+    }
+    to
+}
+
+fn put_group(buf: &mut [u8], at: usize, n: u32, g: Group, l: Line) -> usize {
+    if !g.created {
+        return at;
+    }
+    let at = put_field(buf, at, b"group ", n);
+    let at = put_field(buf, at, b" flags=", g.flags);
+    put_line(buf, at, l)
+}
+
+pub fn put_groups(buf: &mut [u8], at: usize, all: [Group; 8], s: Scheduler) -> usize {
+    let mut to = at;
+    let mut n: usize = 0;
+    while n < 8 {
+        let l = s.line_at(Place {
+            state: ON_FLAGS,
+            number: n as u8,
+        });
+        to = put_group(buf, to, n as u32, all[n], l);
+        n += 1;
+    }
+    to
+}
+
+// The free blocks in the order in which they would be given.
+fn put_free(buf: &mut [u8], at: usize, p: Pool) -> usize {
+    let list = p.list;
+    let n = least(p.free as usize, 64);
+    put_numbers(buf, at, &list[..n], b',')
+}
+
+fn put_pool_sizes(buf: &mut [u8], at: usize, n: u32, p: Pool) -> usize {
+    let at = put_field(buf, at, b"pool ", n);
+    let at = put_field(buf, at, b" block=", p.block as u32);
+    let at = put_field(buf, at, b" total=", p.total);
+    put_field(buf, at, b" blocks=", p.blocks())
+}
+
+fn put_pool(buf: &mut [u8], at: usize, n: u32, p: Pool, l: Line) -> usize {
+    if !p.created {
+        return at;
+    }
+    let at = put_pool_sizes(buf, at, n, p);
+    let at = put_text(buf, at, b" free=[");
+    let at = put_free(buf, at, p);
+    let at = put_text(buf, at, b"] ");
+    put_line(buf, at, l)
+}
+
+pub fn put_pools(buf: &mut [u8], at: usize, all: [Pool; 4], s: Scheduler) -> usize {
+    let mut to = at;
+    let mut n: usize = 0;
+    while n < 4 {
+        let l = s.line_at(Place {
+            state: ON_BLOCK,
+            number: n as u8,
+        });
+        to = put_pool(buf, to, n as u32, all[n], l);
+        n += 1;
+    }
+    to
+}
