@@ -10,7 +10,6 @@ use board_tools::text::assemble::assemble;
 use ordinary::{print, Record, Tape};
 use std::fs;
 use std::io::Write;
-use std::os::unix::fs::PermissionsExt;
 use std::path::PathBuf;
 use std::process::Command;
 
@@ -21,8 +20,13 @@ fn stand_in(name: &str, filter: &str) -> Inspect {
     let path = folder.join("inspect");
     let script =
         format!("#!/bin/sh\n'{}' inspect - | {filter}\n", env!("CARGO_BIN_EXE_board-tools"));
-    fs::write(&path, script).unwrap();
-    fs::set_permissions(&path, fs::Permissions::from_mode(0o755)).unwrap();
+    // Another process writes the program: a file that this one had open for writing could still be open in a child of another test, and a
+    // file that is open for writing cannot be run.
+    let text = folder.join("text");
+    fs::write(&text, script).unwrap();
+    let copied =
+        Command::new("install").args(["-m", "755"]).arg(&text).arg(&path).status().unwrap();
+    assert!(copied.success());
     Inspect::at(&path).unwrap()
 }
 
