@@ -1,5 +1,5 @@
-//! Comparison, with stand-ins for the proved program and, where it has been
-//! built, with the program itself.
+//! Comparison, with stand-ins for the proved program and with the program
+//! itself.
 #![cfg(unix)]
 
 use board_tools::compare::{compare, compare_bytes, first_difference, leave_out, Inspect, NOT_YET};
@@ -10,8 +10,9 @@ use board_tools::text::assemble::assemble;
 use ordinary::{print, Record, Tape};
 use std::fs;
 use std::io::Write;
-use std::path::PathBuf;
-use std::process::Command;
+use std::path::{Path, PathBuf};
+use std::process::{Command, Stdio};
+use std::sync::OnceLock;
 
 /// A program that prints what the ordinary kernel does, passed through a filter.
 fn stand_in(name: &str, filter: &str) -> Inspect {
@@ -128,9 +129,31 @@ fn a_program_that_fails_is_an_error() {
     assert!(error.contains('3'), "{error}");
 }
 
-/// The proved program, or a notice that it has not been built. The notice
-/// goes past the test harness, which would keep it to itself.
+/// Has the script `inspect` at the repository's root prove and build the
+/// program where it is missing or older than its sources.
+fn build_proved() -> Result<(), String> {
+    let script = Path::new(env!("CARGO_MANIFEST_DIR")).join("../../inspect");
+    let output = Command::new(&script)
+        .env_remove("LD_LIBRARY_PATH")
+        .stdin(Stdio::null())
+        .output()
+        .map_err(|error| format!("cannot run {}: {error}", script.display()))?;
+    if output.status.success() {
+        Ok(())
+    } else {
+        Err(String::from_utf8_lossy(&output.stderr).into_owned())
+    }
+}
+
+/// The proved program, built once for all tests. Without the Rattle toolchain
+/// there may be none: the notice of that goes past the test harness, which
+/// would keep it to itself.
 fn proved(test: &str) -> Option<Inspect> {
+    static BUILT: OnceLock<Result<(), String>> = OnceLock::new();
+    let has_toolchain = Command::new("rt").arg("version").output().is_ok();
+    if has_toolchain {
+        BUILT.get_or_init(build_proved).as_ref().expect("the proved program can be built");
+    }
     match Inspect::find() {
         Ok(inspect) => Some(inspect),
         Err(message) => {
