@@ -9,7 +9,7 @@ use Rattle.calls.specs.Statuses as Statuses
 use Rattle.kernel.specs.declared.Kernel.{Kernel}
 use Rattle.kernel.specs.Tables.{started, runnerOf, heldAt, semaphoreAt}
 use Rattle.kernel.specs.Semaphores.{semaphorePlace}
-use Rattle.kernel.specs.Waits.{forever}
+use Rattle.waiting.specs.Ticks.{forever}
 use Rattle.kernel.specs.General.{step}
 
 -- the tables after a call with up to four arguments

@@ -1,6 +1,6 @@
 -- Calls 16 to 21.
 use mathlib.Core.List.{[], _∷_}
-use mathlib.Core.Bool.{true}
+use mathlib.Core.Bool.{true, false}
 use Prim.Native.Nat.{ℕ, _-_}
 use lib.Dec.{ltb}
 use Rattle.lines.specs.Logic.{if_then_else_}
@@ -9,7 +9,7 @@ use Rattle.scheduler.specs.Threads.{onSemaphore}
 use Rattle.scheduler.specs.Orders.{lineAt, firstAt, prioritisedAt}
 use Rattle.objects.specs.declared.semaphore.Semaphore.{Semaphore}
 use Rattle.objects.specs.Semaphores.{noSemaphore}
-use Rattle.calls.specs.Held.{noWords}
+use Rattle.calls.specs.Held.{noWords, waiting}
 use Rattle.calls.specs.Statuses as Statuses
 use Rattle.calls.specs.Refusals.{semaphoreCreateRefusal, semaphoreDeleteRefusal, semaphoreGetRefusal, semaphoreRefusal, ceilingRefusal}
 use Rattle.kernel.specs.declared.Kernel.{Kernel}
@@ -35,7 +35,7 @@ semaphoreCreate k caller n count =
 unfoldable pub semaphoreDelete : Kernel → ℕ → ℕ → Outcome
 semaphoreDelete k caller n =
     guarded k (semaphoreDeleteRefusal (semaphoreAt k n) caller)
-    (carried (withSemaphore (endEach k Statuses.deleted (lineAt (k .scheduler) (semaphorePlace n))) n noSemaphore) Statuses.success noWords (lineAt (k .scheduler) (semaphorePlace n)))
+    (carried (withSemaphore (endEach k Statuses.deleted noWords (lineAt (k .scheduler) (semaphorePlace n))) n noSemaphore) Statuses.success noWords (lineAt (k .scheduler) (semaphorePlace n)))
 
 -- 18 get: an instance at once, else the caller waits
 unfoldable pub semaphoreGet : Kernel → ℕ → ℕ → ℕ → Outcome
@@ -43,7 +43,7 @@ semaphoreGet k caller n wait =
     guarded k (semaphoreGetRefusal (semaphoreAt k n) wait caller)
     (if ltb 0 (semaphoreAt k n .count)
     then carried (withSemaphore k n (counting (semaphoreAt k n .count - 1))) Statuses.success noWords []
-    else carried (startWait k onSemaphore n wait) Statuses.waiting noWords [])
+    else carried (startWait k false onSemaphore n wait waiting) Statuses.waiting noWords [])
 
 -- "a put serves the first waiter, else adds one; at 0xFFFFFFFF it goes to 0"
 unfoldable pub putOn : Kernel → ℕ → Outcome

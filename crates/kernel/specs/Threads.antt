@@ -8,7 +8,7 @@ use Rattle.scheduler.specs.Threads.{ready, completed, terminated, suspended, as
 use Rattle.scheduler.specs.Orders.{withThread, moved}
 use Rattle.scheduler.specs.Choice.{relinquished}
 use Rattle.scheduler.specs.Changes.{priorityChanged, preemptionChanged}
-use Rattle.calls.specs.Held.{noWords, oneWord, twoWords, noHeld}
+use Rattle.calls.specs.Held.{noWords, oneWord, twoWords, noHeld, waiting}
 use Rattle.calls.specs.Statuses as Statuses
 use Rattle.calls.specs.Refusals.{finishedb, createRefusal, deleteRefusal, resumeRefusal, suspendRefusal, terminateRefusal, resetRefusal, threadOnlyRefusal, abortRefusal, priorityRefusal, preemptionRefusal, readRefusal}
 use Rattle.kernel.specs.declared.Kernel.{Kernel}
@@ -80,7 +80,7 @@ threadSleep k caller ticks =
     guarded k (threadOnlyRefusal caller)
     (if eqb ticks 0
     then carried k Statuses.success noWords []
-    else carried (startWait k asleep 0 ticks) Statuses.waiting noWords [])
+    else carried (startWait k false asleep 0 ticks waiting) Statuses.waiting noWords [])
 
 -- 10 wait abort
 unfoldable pub threadWaitAbort : Kernel → ℕ → Outcome

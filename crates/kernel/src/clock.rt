@@ -5,14 +5,14 @@ ghost use Rattle.kernel.specs.Clock.{timeGet, timeSet, tick};
 use super::Answer;
 use super::Kernel;
 use super::two_words;
-use super::waits::is_last_tick;
-use super::waits::is_timed;
-use super::waits::timeout_status;
-use super::waits::with_ticks;
 use calls::held::Held;
 use calls::refusal;
 use calls::status::SUCCESS;
 use lines::ThreadId;
+use waiting::ticks::is_last_tick;
+use waiting::ticks::is_timed;
+use waiting::ticks::timeout_status;
+use waiting::ticks::with_ticks;
 
 impl Kernel {
     pub fn time_get(self) -> Answer

@@ -10,6 +10,7 @@ use calls::held::Held;
 use calls::refusal;
 use calls::status::DELETED;
 use calls::status::SUCCESS;
+use calls::status::WAITING;
 use objects::semaphore::Semaphore;
 use objects::semaphore::SemaphoreId;
 use scheduler::thread::ON_SEMAPHORE;
@@ -76,7 +77,7 @@ impl Kernel {
             self.semaphores = changed;
             return self.carried(s, SUCCESS, [0; 16], 0);
         }
-        self.started_wait(ON_SEMAPHORE, n.0, wait)
+        self.started_wait(false, ON_SEMAPHORE, n.0, wait, Held::of(WAITING, [0; 16]))
     }
 
     // The first waiter is served, else the count goes up by one.
@@ -142,11 +143,8 @@ impl Kernel {
         }
         let s = self.scheduler;
         let line = s.line_at(place(n));
-        let mut k = self.ended_each(line, DELETED);
         let changed = semaphores_with(all, n, Semaphore::none());
-        k.semaphores = changed;
-        let after = k.scheduler;
-        let ended = line.size() as u32;
-        k.carried(after, SUCCESS, [0; 16], ended)
+        self.semaphores = changed;
+        self.ended_each(line, DELETED, [0; 16])
     }
 }

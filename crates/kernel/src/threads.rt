@@ -13,6 +13,7 @@ use calls::held::Held;
 use calls::refusal;
 use calls::status::SUCCESS;
 use calls::status::SUSPEND_LIFTED;
+use calls::status::WAITING;
 use calls::status::WAIT_ABORTED;
 use lines::ThreadId;
 use scheduler::thread::ASLEEP;
@@ -218,7 +219,7 @@ impl Kernel {
         if ticks == 0 {
             return self.carried(s, SUCCESS, [0; 16], 0);
         }
-        self.started_wait(ASLEEP, 0, ticks)
+        self.started_wait(false, ASLEEP, 0, ticks, Held::of(WAITING, [0; 16]))
     }
 
     pub fn thread_wait_abort(mut self, t: ThreadId) -> Answer

@@ -1,5 +1,6 @@
 -- The threads, the one line of all that stand, the orders of the places in it, and the moves.
 use mathlib.Core.List.{List, [], _++_, map}
+use mathlib.Core.Bool.{Bool}
 use Prim.Native.Nat.{ℕ}
 use lib.ListN.{getD, set, replicate}
 use Rattle.lines.specs.Logic.{if_then_else_}
@@ -52,6 +53,10 @@ moved s t th = withOrder (withThread s t th) (without t (members (s .order)) ++ 
 
 unfoldable pub movedFront : Scheduler → ℕ → Thread → Scheduler
 movedFront s t th = withOrder (withThread s t th) (onlyIf (standsb th) t ++ without t (members (s .order)))
+
+-- "Waiters stand in arrival order; a front sender joins at the front."
+unfoldable pub joined : Scheduler → Bool → ℕ → Thread → Scheduler
+joined s front t th = if front then movedFront s t th else moved s t th
 
 -- the wait or sleep of thread t ends
 unfoldable pub woken : Scheduler → ℕ → Scheduler

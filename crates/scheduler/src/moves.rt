@@ -1,6 +1,6 @@
 // Moves: a thread gets another record and joins the order that the record puts it in.
 ghost use mathlib.Core.Path.{_≡_};
-ghost use Rattle.scheduler.specs.Orders.{moved, movedFront, woken, keysAt, prioritisedAt};
+ghost use Rattle.scheduler.specs.Orders.{moved, movedFront, joined, woken, keysAt, prioritisedAt};
 use super::Scheduler;
 use super::thread::Place;
 use super::thread::Thread;
@@ -37,6 +37,17 @@ impl Scheduler {
             s.order = l;
         }
         s
+    }
+
+    // Thread `t` with another record, at the front of its order or at the end.
+    pub fn joined(self, front: bool, t: ThreadId, th: Thread) -> Scheduler
+        ensures { λ r. ⌜ r ≡ joined self front (t .0) th ⌝ }
+    {
+        if front {
+            self.moved_front(t, th)
+        } else {
+            self.moved(t, th)
+        }
     }
 
     // The wait or sleep of thread `t` ends.

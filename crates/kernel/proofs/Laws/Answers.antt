@@ -1,10 +1,9 @@
 -- Laws of answers and of reasons to refuse.
 use mathlib.Core.Path.{_≡_, refl, sym, ap, _∙_}
-use mathlib.Core.List.{List, map}
 use mathlib.Core.Bool.{Bool, true, false}
 use Prim.Native.Nat.{ℕ, _≤_, _<_}
 use native.Mathlib.Omega.{arith}
-use lib.ListN.{length, length-map}
+use lib.ListN.{length}
 use lib.Seq.{set-out}
 use lib.Dec.{eqb}
 use borrow.Author.Tests.{eq-eqb, eqb-true, ne-eqb}
@@ -15,10 +14,6 @@ use Rattle.calls.specs.Refusals.{unless, firstOf}
 use Rattle.kernel.specs.declared.Kernel.{Kernel}
 use Rattle.kernel.specs.Tables.{withHeld}
 use Rattle.kernel.specs.Answers.{Outcome, refused, guarded}
-
--- an array of structs is as long as the array of their values
-pub length-mapped : {A B : Type 0} (f : A → B) (l : List A) (n : ℕ) → length (map f l) ≡ n → length l ≡ n
-length-mapped f l n p = sym (length-map l f) ∙ p
 
 -- ---- refused or carried out
 pub is-refused : (k : Kernel) (reason : ℕ) (o : Outcome) → (reason ≡ 0 → ⊥) → guarded k reason o ≡ refused k reason

@@ -14,7 +14,8 @@ use Rattle.calls.specs.Calls.{decoded, knownCall}
 use Rattle.calls.specs.Refusals.{unless, firstOf, createRefusal, resumeRefusal, threadOnlyRefusal, tickRefusal, semaphoreCreateRefusal, semaphoreGetRefusal, semaphoreRefusal, ceilingRefusal}
 use Rattle.kernel.specs.Tables.{started, heldAt, semaphoreAt, withScheduler, withHeld, withSemaphore, withClock, given}
 use Rattle.kernel.specs.Answers.{refused, carried, guarded}
-use Rattle.kernel.specs.Waits.{endWait, startWait, timedb, timeoutStatus, withTicks, lastTickb, tickOne, tickBelow, timedOut, oneMore, ticked}
+use Rattle.waiting.specs.Ticks.{timedb, timeoutStatus, withTicks, lastTickb}
+use Rattle.kernel.specs.Waits.{endWait, startWait, tickOne, tickBelow, timedOut, oneMore, ticked}
 use Rattle.kernel.specs.Threads.{threadCreate, lifted, resumed, threadResume, threadFinish}
 use Rattle.kernel.specs.Clock.{timeSet, tick}
 use Rattle.kernel.specs.Semaphores.{counting, semaphoreCreate, semaphoreGet, putOn, semaphorePut, semaphoreCeilingPut, semaphorePrioritize}
@@ -22,7 +23,7 @@ use Rattle.kernel.specs.General.{service, byCaller, byRecord, step}
 use Rattle.kernel.specs.Cases.{after, withCount, p3a, p3b, waits, p9, timedOutGet, Cases}
 
 pub cases : Cases
-unfolding after withCount p3a p3b waits p9 timedOutGet service byCaller byRecord step counting semaphoreCreate semaphoreGet putOn semaphorePut semaphoreCeilingPut semaphorePrioritize timeSet tick threadCreate lifted resumed threadResume threadFinish endWait startWait timedb timeoutStatus withTicks lastTickb tickOne tickBelow timedOut oneMore ticked refused carried guarded started heldAt semaphoreAt withScheduler withHeld withSemaphore withClock given unless firstOf createRefusal resumeRefusal threadOnlyRefusal tickRefusal semaphoreCreateRefusal semaphoreGetRefusal semaphoreRefusal ceilingRefusal decoded knownCall holding noSemaphore noQueue noGroup noPool bestAmong bestReady bestMarked staysb overtakesb nextOf withMark replaced ran rescheduled Orders.threadAt Orders.lineAt Orders.firstAt Orders.withThread Orders.withOrder Orders.withRunner Orders.started Orders.moved Orders.woken Orders.keyAt Orders.prioritisedAt uncreated noThread readyb sleepsb waitsb pausedb markedb standsb numberOf placedb inState awake withSuspension created filter without first firstWith leastOf firstOfKey bestOf prioritised members pad lineOf
+unfolding after withCount p3a p3b waits p9 timedOutGet service byCaller byRecord step counting semaphoreCreate semaphoreGet putOn semaphorePut semaphoreCeilingPut semaphorePrioritize timeSet tick threadCreate lifted resumed threadResume threadFinish endWait startWait timedb timeoutStatus withTicks lastTickb tickOne tickBelow timedOut oneMore ticked refused carried guarded started heldAt semaphoreAt withScheduler withHeld withSemaphore withClock given unless firstOf createRefusal resumeRefusal threadOnlyRefusal tickRefusal semaphoreCreateRefusal semaphoreGetRefusal semaphoreRefusal ceilingRefusal decoded knownCall holding noSemaphore noQueue noGroup noPool bestAmong bestReady bestMarked staysb overtakesb nextOf withMark replaced ran rescheduled Orders.threadAt Orders.lineAt Orders.firstAt Orders.withThread Orders.withOrder Orders.withRunner Orders.started Orders.moved Orders.joined Orders.woken Orders.keyAt Orders.prioritisedAt uncreated noThread readyb sleepsb waitsb pausedb markedb standsb numberOf placedb inState awake withSuspension created filter without first firstWith leastOf firstOfKey bestOf prioritised members pad lineOf
 cases =
     record {
       p1 = refl;

@@ -15,7 +15,7 @@ use Rattle.lines.proofs.Laws.Lists
 use Rattle.scheduler.specs.declared.thread.Thread.{Thread}
 use Rattle.scheduler.specs.declared.Scheduler.{Scheduler}
 use Rattle.scheduler.specs.Threads.{onQueue, onSemaphore, onFlags, onBlock, uncreated, sleepsb, waitsb, pausedb, inState, awake}
-use Rattle.scheduler.specs.Orders.{threadAt, moved, woken}
+use Rattle.scheduler.specs.Orders.{threadAt, moved, movedFront, joined, woken}
 use Rattle.scheduler.specs.Choice.{withMark, rescheduled}
 use Rattle.scheduler.specs.Sound.{fitb, Steady}
 use Rattle.scheduler.proofs.Laws.Orders
@@ -30,10 +30,11 @@ use Rattle.calls.specs.declared.held.Held.{Held}
 use Rattle.calls.specs.Held.{noWords, holding, noHeld}
 use Rattle.calls.specs.Statuses as Statuses
 use Rattle.kernel.specs.declared.Kernel.{Kernel}
-use Rattle.kernel.specs.Tables.{threadOf, runnerOf, heldAt, semaphoreAt, withScheduler, withHeld, withSemaphore, withClock, given}
+use Rattle.kernel.specs.Tables.{threadOf, runnerOf, heldAt, semaphoreAt, withScheduler, withHeld, withSemaphore, withClock, given, queueAt, groupAt, poolAt}
 use Rattle.kernel.specs.Answers.{Outcome, refused, carried, guarded}
 use Rattle.kernel.specs.Waits.{endWait, endEach, startWait}
-use Rattle.kernel.specs.Sound.{queueAt, groupAt, poolAt, blankFrom, waitsOnb, sendsb, statusFitb, wordsFitb, senderFitb, requestFitb, unheldFitb, heldFitb, semaphoreWaitb, queueWaitb, groupWaitb, poolWaitb, waitFitb, Sound}
+use Rattle.waiting.specs.Fit.{blankFrom, waitsOnb, sendsb, statusFitb, wordsFitb, senderFitb, requestFitb, unheldFitb, heldFitb, semaphoreWaitb, queueWaitb, groupWaitb, poolWaitb}
+use Rattle.kernel.specs.Sound.{waitFitb, Sound}
 
 -- what is asked of each object that a thread with this record may wait on
 abbrev queueAsk : Kernel → Thread → Held → Bool
@@ -160,16 +161,58 @@ module _ (k : Kernel) (F : Fit k) where
         pools = F .pools;
       }
 
-  -- ---- one thread gets a record and holds something
+  -- ---- one thread gets a record and holds something: s is the scheduler afterwards
+  module _ (s : Scheduler) (t : ℕ) (th : Thread) (h : Held) (small : t < 32) (here : threadAt s t ≡ th) (there : (u : ℕ) → (u ≡ t → ⊥) → threadAt s u ≡ threadOf k u) where
+    abbrev put : Kernel
+    put = withHeld (withScheduler k s) t h
+
+    put-held-self : heldAt put t ≡ h
+    unfolding withHeld withScheduler heldAt
+    put-held-self = getD-set-same (k .held) t h noHeld (let e = F .heldSized in omega (arith, e, small))
+
+    put-held-other : (u : ℕ) → (u ≡ t → ⊥) → heldAt put u ≡ heldAt k u
+    unfolding withHeld withScheduler heldAt
+    put-held-other u n = getD-set-other (k .held) t u h noHeld n
+
+    put-self : threadOf put t ≡ th
+    unfolding withHeld withScheduler
+    put-self = here
+
+    put-other : (u : ℕ) → (u ≡ t → ⊥) → threadOf put u ≡ threadOf k u
+    unfolding withHeld withScheduler
+    put-other = there
+
+    -- what holds of t's record with what it holds, and of all others, holds of every thread
+    put-all : (g : Thread → Held → Bool) → g th h ≡ true → ((u : ℕ) → u < 32 → g (threadOf k u) (heldAt k u) ≡ true)
+        → (u : ℕ) → u < 32 → g (threadOf put u) (heldAt put u) ≡ true
+    put-all g now then u l =
+        by-eq u t
+        (λ e. ap (λ (x : ℕ). g (threadOf put x) (heldAt put x)) e ∙ (λ i. g (put-self i) (put-held-self i)) ∙ now)
+        (λ e. (λ i. g (put-other u e i) (put-held-other u e i)) ∙ then u l)
+
+    put-wait : (x : Thread) (y : Held) → waitOf put x y ≡ waitOf k x y
+    unfolding withHeld withScheduler waitOf semaphoreAt queueAt groupAt poolAt
+    put-wait x y = refl
+
+    fit-put : Steady s → heldFitb th h ≡ true → waitOf k th h ≡ true → Fit put
+    unfolding withHeld withScheduler semaphoreAt queueAt groupAt poolAt
+    fit-put steady holds waits =
+        record {
+          steady = steady;
+          heldSized = length-set (k .held) t h ∙ F .heldSized;
+          semaphoresSized = F .semaphoresSized;
+          queuesSized = F .queuesSized;
+          groupsSized = F .groupsSized;
+          poolsSized = F .poolsSized;
+          held = put-all heldFitb holds (F .held);
+          waits = λ u l. put-wait (threadOf put u) (heldAt put u) ∙ put-all (waitOf k) waits (F .waits) u l;
+          semaphores = F .semaphores;
+          queues = F .queues;
+          groups = F .groups;
+          pools = F .pools;
+        }
+
   module _ (t : ℕ) (th : Thread) (h : Held) (small : t < 32) where
-    given-held-self : heldAt (given k t th h) t ≡ h
-    unfolding given withHeld withScheduler heldAt
-    given-held-self = getD-set-same (k .held) t h noHeld (let e = F .heldSized in omega (arith, e, small))
-
-    given-held-other : (u : ℕ) → (u ≡ t → ⊥) → heldAt (given k t th h) u ≡ heldAt k u
-    unfolding given withHeld withScheduler heldAt
-    given-held-other u n = getD-set-other (k .held) t u h noHeld n
-
     pub given-self : threadOf (given k t th h) t ≡ th
     unfolding given withHeld withScheduler
     given-self = Orders.moved-self (k .scheduler) (F .steady) t th small
@@ -178,35 +221,27 @@ module _ (k : Kernel) (F : Fit k) where
     unfolding given withHeld withScheduler
     given-other u n = Orders.moved-other (k .scheduler) (F .steady) t th small u n
 
-    -- what holds of t's record with what it holds, and of all others, holds of every thread
-    given-all : (g : Thread → Held → Bool) → g th h ≡ true → ((u : ℕ) → u < 32 → g (threadOf k u) (heldAt k u) ≡ true)
-        → (u : ℕ) → u < 32 → g (threadOf (given k t th h) u) (heldAt (given k t th h) u) ≡ true
-    given-all g here there u l =
-        by-eq u t
-        (λ e. ap (λ (x : ℕ). g (threadOf (given k t th h) x) (heldAt (given k t th h) x)) e ∙ (λ i. g (given-self i) (given-held-self i)) ∙ here)
-        (λ e. (λ i. g (given-other u e i) (given-held-other u e i)) ∙ there u l)
-
-    given-wait : (x : Thread) (y : Held) → waitOf (given k t th h) x y ≡ waitOf k x y
-    unfolding given withHeld withScheduler waitOf semaphoreAt queueAt groupAt poolAt
-    given-wait x y = refl
+    pub given-held : (u : ℕ) → (u ≡ t → ⊥) → heldAt (given k t th h) u ≡ heldAt k u
+    unfolding given withHeld withScheduler heldAt
+    given-held u n = getD-set-other (k .held) t u h noHeld n
 
     pub fit-given : fitb th ≡ true → heldFitb th h ≡ true → waitOf k th h ≡ true → Fit (given k t th h)
-    unfolding given withHeld withScheduler semaphoreAt queueAt groupAt poolAt
-    fit-given fit holds waits =
-        record {
-          steady = Orders.moved-steady (k .scheduler) (F .steady) t th small fit;
-          heldSized = length-set (k .held) t h ∙ F .heldSized;
-          semaphoresSized = F .semaphoresSized;
-          queuesSized = F .queuesSized;
-          groupsSized = F .groupsSized;
-          poolsSized = F .poolsSized;
-          held = given-all heldFitb holds (F .held);
-          waits = λ u l. given-wait (threadOf (given k t th h) u) (heldAt (given k t th h) u) ∙ given-all (waitOf k) waits (F .waits) u l;
-          semaphores = F .semaphores;
-          queues = F .queues;
-          groups = F .groups;
-          pools = F .pools;
-        }
+    unfolding given
+    fit-given fit =
+        fit-put (moved (k .scheduler) t th) t th h small
+        (Orders.moved-self (k .scheduler) (F .steady) t th small)
+        (Orders.moved-other (k .scheduler) (F .steady) t th small)
+        (Orders.moved-steady (k .scheduler) (F .steady) t th small fit)
+
+    -- at the front of its order or at the end
+    pub fit-joined : (front : Bool) → fitb th ≡ true → heldFitb th h ≡ true → waitOf k th h ≡ true → Fit (withHeld (withScheduler k (joined (k .scheduler) front t th)) t h)
+    unfolding joined withHeld given
+    fit-joined true fit =
+        fit-put (movedFront (k .scheduler) t th) t th h small
+        (Orders.front-self (k .scheduler) (F .steady) t th small)
+        (Orders.front-other (k .scheduler) (F .steady) t th small)
+        (Orders.front-steady (k .scheduler) (F .steady) t th small fit)
+    fit-joined false fit = fit-given fit
 
   -- one thread gets a record and holds what it held
   given-moved : (t : ℕ) (th : Thread) → given k t th (heldAt k t) ≡ withScheduler k (moved (k .scheduler) t th)
@@ -370,13 +405,17 @@ module _ (k : Kernel) (F : Fit k) (t : ℕ) (made : threadOf k t .created ≡ tr
       (held-status (awake (threadOf k t)) awake-made (States.awake-state (threadOf k t)) status words known)
       (wait-none k (awake (threadOf k t)) (holding status words) (let l = States.awake-state (threadOf k t) in omega (arith, l)))
 
-  end-self : threadOf (endWait k t status words) t ≡ awake (threadOf k t)
+  pub end-self : threadOf (endWait k t status words) t ≡ awake (threadOf k t)
   unfolding endWait woken given
   end-self = given-self k F t (awake (threadOf k t)) (holding status words) small
 
-  end-other : (u : ℕ) → (u ≡ t → ⊥) → threadOf (endWait k t status words) u ≡ threadOf k u
+  pub end-other : (u : ℕ) → (u ≡ t → ⊥) → threadOf (endWait k t status words) u ≡ threadOf k u
   unfolding endWait woken given
   end-other u n = given-other k F t (awake (threadOf k t)) (holding status words) small u n
+
+  pub end-held : (u : ℕ) → (u ≡ t → ⊥) → heldAt (endWait k t status words) u ≡ heldAt k u
+  unfolding endWait woken given
+  end-held u n = given-held k F t (awake (threadOf k t)) (holding status words) small u n
 
   end-made : (u : ℕ) → threadOf k u .created ≡ true → threadOf (endWait k t status words) u .created ≡ true
   end-made u m =
@@ -384,38 +423,39 @@ module _ (k : Kernel) (F : Fit k) (t : ℕ) (made : threadOf k t .created ≡ tr
       (λ e. ap (λ (x : ℕ). threadOf (endWait k t status words) x .created) e ∙ ap (λ (x : Thread). x .created) end-self ∙ awake-made)
       (λ n. ap (λ (x : Thread). x .created) (end-other u n) ∙ m)
 
--- the waits of all in a line
-module _ (status : ℕ) (known : eqb status Statuses.waiting ≡ false) where
-  pub fit-each : (k : Kernel) → Fit k → (xs : List ℕ) → ((u : ℕ) → 0 < count u xs → threadOf k u .created ≡ true) → Fit (endEach k status xs)
+-- the waits of all in a list
+module _ (status : ℕ) (words : List ℕ) (known : eqb status Statuses.waiting ≡ false) where
+  pub fit-each : (k : Kernel) → Fit k → (xs : List ℕ) → ((u : ℕ) → 0 < count u xs → threadOf k u .created ≡ true) → Fit (endEach k status words xs)
   unfolding endEach count
   fit-each k F [] made = F
   fit-each k F (t ∷ ts) made =
       let m = made t (let c = Lists.count-here t ts in omega (arith, c)) in
-      fit-each (endWait k t status noWords) (fit-end k F t m status noWords known) ts (λ u c. end-made k F t m status noWords known u (made u (omega (arith, c))))
+      fit-each (endWait k t status words) (fit-end k F t m status words known) ts (λ u c. end-made k F t m status words known u (made u (omega (arith, c))))
 
-  -- what holds of every thread awake, and of those that are not in line, holds of all afterwards
-  pub each-holds : (P : Thread → Type 0) → ((th : Thread) → P (awake th)) → (k : Kernel) → Fit k → (xs : List ℕ) → ((u : ℕ) → 0 < count u xs → threadOf k u .created ≡ true)
-      → ((u : ℕ) → count u xs ≡ 0 → P (threadOf k u)) → (u : ℕ) → P (threadOf (endEach k status xs) u)
+  -- what holds of every thread awake, and of those that are not in the list, holds of all afterwards
+  pub each-holds : (P : Thread → Held → Type 0) → ((th : Thread) (h : Held) → P (awake th) h) → (k : Kernel) → Fit k → (xs : List ℕ) → ((u : ℕ) → 0 < count u xs → threadOf k u .created ≡ true)
+      → ((u : ℕ) → count u xs ≡ 0 → P (threadOf k u) (heldAt k u)) → (u : ℕ) → P (threadOf (endEach k status words xs) u) (heldAt (endEach k status words xs) u)
   unfolding endEach count
   each-holds P h k F [] made others u = others u refl
   each-holds P h k F (t ∷ ts) made others u =
       let m = made t (let c = Lists.count-here t ts in omega (arith, c)) in
-      each-holds P h (endWait k t status noWords) (fit-end k F t m status noWords known) ts (λ v c. end-made k F t m status noWords known v (made v (omega (arith, c))))
+      each-holds P h (endWait k t status words) (fit-end k F t m status words known) ts (λ v c. end-made k F t m status words known v (made v (omega (arith, c))))
       (λ v c. by-eq v t
-      (λ e. rw (e, end-self k F t m status noWords known) (h (threadOf k t)))
-      (λ n. rw (end-other k F t m status noWords known v n) (others v (Lists.count-there v t ts (λ q. n (sym q)) ∙ c))))
+      (λ e. rw (e, end-self k F t m status words known) (h (threadOf k t) (heldAt (endWait k t status words) t)))
+      (λ n. rw (end-other k F t m status words known v n, end-held k F t m status words known v n) (others v (Lists.count-there v t ts (λ q. n (sym q)) ∙ c))))
       u
 
--- ---- a wait or sleep that starts, on no queue and for no flags
+-- ---- a wait or sleep that starts
 pub fit-start : (k : Kernel) → Fit k → runnerOf k < 32 → threadOf k (runnerOf k) .created ≡ true
-    → (state object ticks : ℕ) → 4 ≤ state → state ≤ 8 → (state ≡ 4 → object ≡ 0) → (state ≡ 5 → ⊥) → (state ≡ 7 → ⊥) → 0 < ticks
-    → waitOf k (inState state object ticks (threadOf k (runnerOf k))) (holding Statuses.waiting noWords) ≡ true → Fit (startWait k state object ticks)
+    → (front : Bool) (state object ticks : ℕ) (h : Held) → 4 ≤ state → state ≤ 8 → (state ≡ 4 → object ≡ 0) → 0 < ticks
+    → ((th : Thread) → th .created ≡ true → th .state ≡ state → heldFitb th h ≡ true)
+    → waitOf k (inState state object ticks (threadOf k (runnerOf k))) h ≡ true → Fit (startWait k front state object ticks h)
 unfolding startWait inState
-fit-start k F small made state object ticks low known o q f pos w =
+fit-start k F small made front state object ticks h low known o pos holds w =
     let th = threadOf k (runnerOf k) in
-    fit-given k F (runnerOf k) (inState state object ticks th) (holding Statuses.waiting noWords) small
+    fit-joined k F (runnerOf k) (inState state object ticks th) h small front
     (States.fit-in-wait state object ticks th made (F .steady .fit (runnerOf k) small) low known o pos)
-    (held-waiting (inState state object ticks th) made low q f)
+    (holds (inState state object ticks th) made refl)
     w
 
 -- ---- answers

@@ -19,7 +19,7 @@ use Rattle.scheduler.proofs.Laws.States
 use Rattle.scheduler.proofs.Laws.Fairness.{first-placed}
 use Rattle.objects.specs.declared.semaphore.Semaphore.{Semaphore}
 use Rattle.objects.specs.Semaphores.{noSemaphore}
-use Rattle.calls.specs.Held.{noWords, holding}
+use Rattle.calls.specs.Held.{noWords, waiting}
 use Rattle.calls.specs.Statuses as Statuses
 use Rattle.calls.specs.Refusals.{unless, firstOf, semaphoreCreateRefusal, semaphoreDeleteRefusal, semaphoreGetRefusal, semaphoreRefusal, ceilingRefusal}
 use Rattle.kernel.specs.declared.Kernel.{Kernel}
@@ -27,7 +27,8 @@ use Rattle.kernel.specs.Tables.{threadOf, runnerOf, heldAt, semaphoreAt,
 use Rattle.kernel.specs.Answers.{Outcome}
 use Rattle.kernel.specs.Waits.{endEach, startWait, oneMore}
 use Rattle.kernel.specs.Semaphores as Calls
-use Rattle.kernel.specs.Sound.{waitsOnb, semaphoreWaitb, Sound}
+use Rattle.waiting.specs.Fit.{waitsOnb, semaphoreWaitb}
+use Rattle.kernel.specs.Sound.{Sound}
 use Rattle.kernel.proofs.Laws.Answers.{first-none, second-none, unless-none}
 use Rattle.kernel.proofs.Laws.Keeps
 use Rattle.kernel.proofs.Laws.KeepsThreads.{runner-made}
@@ -93,13 +94,13 @@ module _ (k : Kernel) (F : Keeps.Fit k) (n : ℕ) where
       (λ e. e)
 
   -- the waits of all in line end, and the record is zero
-  fit-deleted : n < 16 → Keeps.Fit (withSemaphore (endEach k Statuses.deleted line) n noSemaphore)
+  fit-deleted : n < 16 → Keeps.Fit (withSemaphore (endEach k Statuses.deleted noWords line) n noSemaphore)
   unfolding noSemaphore
   fit-deleted small =
-      let G = Keeps.fit-each Statuses.deleted refl k F line line-made in
-      Keeps.fit-semaphore (endEach k Statuses.deleted line) G n noSemaphore small refl
-      (free-line (endEach k Statuses.deleted line) G n
-      (Keeps.each-holds Statuses.deleted refl (λ th. placedb (Calls.semaphorePlace n) th ≡ false) (awake-unplaced n) k F line line-made line-others))
+      let G = Keeps.fit-each Statuses.deleted noWords refl k F line line-made in
+      Keeps.fit-semaphore (endEach k Statuses.deleted noWords line) G n noSemaphore small refl
+      (free-line (endEach k Statuses.deleted noWords line) G n
+      (Keeps.each-holds Statuses.deleted noWords refl (λ th h. placedb (Calls.semaphorePlace n) th ≡ false) (λ th h. awake-unplaced n th) k F line line-made line-others))
 
 -- ---- the calls
 module _ (k : Kernel) (S : Sound k) where
@@ -136,12 +137,13 @@ module _ (k : Kernel) (S : Sound k) where
       (free-record k F n (rw (made, ne-eqb (semaphoreAt k n .count) 0 (λ z. omega (arith, l, z)))))
 
   -- else the caller waits
-  fit-queued : (n wait : ℕ) → semaphoreAt k n .created ≡ true → ltb 0 (semaphoreAt k n .count) ≡ false → runnerOf k < 32 → 0 < wait → Keeps.Fit (startWait k 6 n wait)
+  fit-queued : (n wait : ℕ) → semaphoreAt k n .created ≡ true → ltb 0 (semaphoreAt k n .count) ≡ false → runnerOf k < 32 → 0 < wait → Keeps.Fit (startWait k false 6 n wait waiting)
   unfolding semaphoreWaitb inState
   fit-queued n wait made q l pos =
       let none = ltb-false 0 (semaphoreAt k n .count) q in
-      Keeps.fit-start k F l (runner-made k S l) 6 n wait (omega arith) (omega arith) (λ z. absurd (omega (arith, z))) (λ z. omega (arith, z)) (λ z. omega (arith, z)) pos
-      (Keeps.wait-semaphore k (inState 6 n wait (threadOf k (runnerOf k))) (holding Statuses.waiting noWords) refl
+      Keeps.fit-start k F l (runner-made k S l) false 6 n wait waiting (omega arith) (omega arith) (λ z. absurd (omega (arith, z))) pos
+      (λ th m e. Keeps.held-waiting th m (omega (arith, e)) (λ z. omega (arith, e, z)) (λ z. omega (arith, e, z)))
+      (Keeps.wait-semaphore k (inState 6 n wait (threadOf k (runnerOf k))) waiting refl
       (and-in (semaphoreAt k n .created) (eqb (semaphoreAt k n .count) 0) made (eq-eqb (semaphoreAt k n .count) 0 (omega (arith, none)))))
 
   pub get-sound : (caller : ℕ) → (eqb caller 2 ≡ true → runnerOf k < 32) → (n wait : ℕ) → Sound (Calls.semaphoreGet k caller n wait .kernel)

@@ -17,7 +17,7 @@ use Rattle.scheduler.proofs.Laws.Threads.{fit-low}
 use Rattle.scheduler.proofs.Laws.Orders
 use Rattle.scheduler.proofs.Laws.Changing
 use Rattle.scheduler.proofs.Laws.States
-use Rattle.calls.specs.Held.{noWords, holding, noHeld}
+use Rattle.calls.specs.Held.{noWords, holding, noHeld, waiting}
 use Rattle.calls.specs.Statuses as Statuses
 use Rattle.calls.specs.Refusals.{unless, firstOf, finishedb, createRefusal, deleteRefusal, resumeRefusal, suspendRefusal, terminateRefusal, resetRefusal, threadOnlyRefusal, abortRefusal, priorityRefusal, preemptionRefusal}
 use Rattle.kernel.specs.declared.Kernel.{Kernel}
@@ -222,8 +222,8 @@ module _ (k : Kernel) (S : Sound k) where
         by-choice (λ (x : Outcome). Sound (x .kernel)) (eqb ticks 0) _ _
         (λ q. Keeps.sound-carried k F _ _ _)
         (λ q. let some = eqb-false ticks 0 q in
-        Keeps.sound-carried (startWait k 4 0 ticks)
-        (Keeps.fit-start k F l (runner-made k S l) 4 0 ticks (omega arith) (omega arith) (λ z. refl) (λ z. omega (arith, z)) (λ z. omega (arith, z))
-        (omega (arith, some))
-        (Keeps.wait-none k (inState 4 0 ticks (threadOf k (runnerOf k))) (holding Statuses.waiting noWords) (omega arith)))
+        Keeps.sound-carried (startWait k false 4 0 ticks waiting)
+        (Keeps.fit-start k F l (runner-made k S l) false 4 0 ticks waiting (omega arith) (omega arith) (λ z. refl) (omega (arith, some))
+        (λ th m e. Keeps.held-waiting th m (omega (arith, e)) (λ z. omega (arith, e, z)) (λ z. omega (arith, e, z)))
+        (Keeps.wait-none k (inState 4 0 ticks (threadOf k (runnerOf k))) waiting (omega arith)))
         _ _ _))

@@ -19,7 +19,8 @@ use Rattle.calls.specs.Held.{noWords}
 use Rattle.calls.specs.Statuses as Statuses
 use Rattle.kernel.specs.declared.Kernel.{Kernel}
 use Rattle.kernel.specs.Tables.{threadOf, heldAt, withScheduler}
-use Rattle.kernel.specs.Waits.{timedb, timeoutStatus, withTicks, lastTickb, tickOne, tickBelow, oneMore, ticked}
+use Rattle.waiting.specs.Ticks.{timedb, timeoutStatus, withTicks, lastTickb}
+use Rattle.kernel.specs.Waits.{tickOne, tickBelow, oneMore, ticked}
 use Rattle.kernel.specs.Clock.{timeGet, timeSet, tick}
 use Rattle.kernel.specs.Sound.{Sound}
 use Rattle.kernel.proofs.Laws.Waits.{tick-last, tick-timed, tick-none, ticks-left}

@@ -28,8 +28,9 @@ use Rattle.objects.specs.Pools.{noPool, poolZerob, poolFitb}
 use Rattle.calls.specs.declared.held.Held.{Held}
 use Rattle.calls.specs.Held.{holding}
 use Rattle.kernel.specs.declared.Kernel.{Kernel}
-use Rattle.kernel.specs.Tables.{started, threadOf, heldAt, semaphoreAt}
-use Rattle.kernel.specs.Sound.{queueAt, groupAt, poolAt, blankFrom, waitsOnb, sendsb, statusFitb, wordsFitb, senderFitb, requestFitb, unheldFitb, heldFitb, semaphoreWaitb, queueWaitb, groupWaitb, poolWaitb, waitFitb, semaphoresFitb, queuesFitb, groupsFitb, poolsFitb, soundb, Sound}
+use Rattle.kernel.specs.Tables.{started, threadOf, heldAt, semaphoreAt, queueAt, groupAt, poolAt}
+use Rattle.waiting.specs.Fit.{blankFrom, waitsOnb, sendsb, statusFitb, wordsFitb, senderFitb, requestFitb, unheldFitb, heldFitb, semaphoreWaitb, queueWaitb, groupWaitb, poolWaitb, semaphoresFitb, queuesFitb, groupsFitb, poolsFitb}
+use Rattle.kernel.specs.Sound.{waitFitb, soundb, Sound}
 
 -- ---- one thread more of a test of all
 pub one-more : (f : ℕ → Bool) (t : ℕ) (ok b : Bool) → ok ≡ allBelow t f → b ≡ f t → (ok && b) ≡ allBelow (t + 1) f

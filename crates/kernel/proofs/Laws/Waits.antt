@@ -17,26 +17,44 @@ use Rattle.scheduler.specs.declared.Scheduler.{Scheduler}
 use Rattle.scheduler.specs.declared.thread.Thread.{Thread}
 use Rattle.scheduler.specs.Threads.{noThread, awake}
 use Rattle.scheduler.specs.Orders.{threadAt, withThread, withOrder, moved, woken}
+use Rattle.objects.specs.declared.semaphore.Semaphore.{Semaphore}
+use Rattle.objects.specs.declared.queue.Queue.{Queue}
+use Rattle.objects.specs.declared.group.Group.{Group}
 use Rattle.calls.specs.Held.{noWords}
 use Rattle.kernel.specs.declared.Kernel.{Kernel}
-use Rattle.kernel.specs.Tables.{threadOf, heldAt, withScheduler, withHeld}
-use Rattle.kernel.specs.Waits.{endWait, endEach, timedb, timeoutStatus, withTicks, lastTickb, tickOne, tickBelow, timedOut}
+use Rattle.kernel.specs.Tables.{threadOf, heldAt, withScheduler, withHeld, withSemaphore, withQueue, withGroup}
+use Rattle.waiting.specs.Ticks.{timedb, timeoutStatus, withTicks, lastTickb}
+use Rattle.kernel.specs.Waits.{endWait, endEach, tickOne, tickBelow, timedOut}
 
--- one more at the end of the line
-each-last : (k : Kernel) (status : ℕ) (xs : List ℕ) (t : ℕ) → endEach k status (xs ++ (t ∷ [])) ≡ endWait (endEach k status xs) t status noWords
+-- one more at the end of the list
+each-last : (k : Kernel) (status : ℕ) (words xs : List ℕ) (t : ℕ) → endEach k status words (xs ++ (t ∷ [])) ≡ endWait (endEach k status words xs) t status words
 unfolding endEach
-each-last k status [] t = refl
-each-last k status (x ∷ xs) t = each-last (endWait k x status noWords) status xs t
+each-last k status words [] t = refl
+each-last k status words (x ∷ xs) t = each-last (endWait k x status words) status words xs t
 
 -- one slot more of a line
-pub each-more : (k : Kernel) (status : ℕ) (xs : List ℕ) (i : ℕ) → i < length xs → endEach k status (take (i + 1) xs) ≡ endWait (endEach k status (take i xs)) (getD xs i 0) status noWords
-each-more k status xs i h = ap (endEach k status) (take-one xs i h) ∙ each-last k status (take i xs) (getD xs i 0)
+pub each-more : (k : Kernel) (status : ℕ) (words xs : List ℕ) (i : ℕ) → i < length xs → endEach k status words (take (i + 1) xs) ≡ endWait (endEach k status words (take i xs)) (getD xs i 0) status words
+each-more k status words xs i h = ap (endEach k status words) (take-one xs i h) ∙ each-last k status words (take i xs) (getD xs i 0)
 
--- the semaphores stay as they are
-pub each-semaphores : (k : Kernel) (status : ℕ) (xs : List ℕ) → endEach k status xs .semaphores ≡ k .semaphores
-unfolding endEach endWait withHeld withScheduler
-each-semaphores k status [] = refl
-each-semaphores k status (x ∷ xs) = each-semaphores (endWait k x status noWords) status xs
+-- a change that goes past the end of one wait goes past the end of several
+each-past : (f : Kernel → Kernel) (status : ℕ) (words : List ℕ) → ((k : Kernel) (t : ℕ) → endWait (f k) t status words ≡ f (endWait k t status words))
+    → (k : Kernel) (xs : List ℕ) → endEach (f k) status words xs ≡ f (endEach k status words xs)
+unfolding endEach
+each-past f status words h k [] = refl
+each-past f status words h k (x ∷ xs) = ap (λ (y : Kernel). endEach y status words xs) (h k x) ∙ each-past f status words h (endWait k x status words) xs
+
+-- the records of objects can be stored before or after
+pub each-semaphore : (k : Kernel) (n : ℕ) (x : Semaphore) (status : ℕ) (words xs : List ℕ) → endEach (withSemaphore k n x) status words xs ≡ withSemaphore (endEach k status words xs) n x
+unfolding endWait withHeld withScheduler withSemaphore
+each-semaphore k n x status words xs = each-past (λ y. withSemaphore y n x) status words (λ y t. refl) k xs
+
+pub each-queue : (k : Kernel) (n : ℕ) (q : Queue) (status : ℕ) (words xs : List ℕ) → endEach (withQueue k n q) status words xs ≡ withQueue (endEach k status words xs) n q
+unfolding endWait withHeld withScheduler withQueue
+each-queue k n q status words xs = each-past (λ y. withQueue y n q) status words (λ y t. refl) k xs
+
+pub each-group : (k : Kernel) (n : ℕ) (g : Group) (status : ℕ) (words xs : List ℕ) → endEach (withGroup k n g) status words xs ≡ withGroup (endEach k status words xs) n g
+unfolding endWait withHeld withScheduler withGroup
+each-group k n g status words xs = each-past (λ y. withGroup y n g) status words (λ y t. refl) k xs
 
 -- ---- ticks
 -- the tick of thread n leaves the others' records

@@ -5,7 +5,7 @@ use borrow.Author.Needs.{needs}
 use lib.ListN.{length, List·getD-eq-default}
 use Rattle.lines.proofs.Laws.Lists.{getD-any}
 use Rattle.calls.specs.Held.{noHeld}
-use Rattle.kernel.proofs.Laws.Answers.{length-mapped}
+use Rattle.scheduler.proofs.Laws.Threads.{length-mapped}
 use Rattle.kernel.proofs.held_in.Statement.{statement}
 use Rattle.kernel.proofs.held_in.Tie as tie
 

@@ -1,25 +1,36 @@
 use mathlib.Core.Path.{_≡_, refl, sym, ap, _∙_}
+use mathlib.Core.Bool.{false}
 use Prim.Native.Nat.{ℕ, _<_, _≤_, _-_}
 use native.Mathlib.Omega.{arith}
 use borrow.Author.Needs.{needs}
-use lib.ListN.{length, take, getD, length-set}
+use lib.ListN.{length, take, getD}
+use mathlib.Core.Path.{_≡_, refl, sym, ap, _∙_}
 use Rattle.lines.specs.Lines.{members}
+use Rattle.lines.proofs.Laws.Lines.{length-members, members-take}
 use Rattle.scheduler.specs.Orders.{woken}
+use Rattle.scheduler.proofs.Laws.Threads.{length-mapped}
+use Rattle.calls.specs.declared.held.Held.{Held}
 use Rattle.calls.specs.Held.{noWords, holding}
 use Rattle.kernel.specs.declared.Kernel.{Kernel}
 use Rattle.kernel.specs.Tables.{withScheduler, withHeld}
+use Rattle.kernel.specs.Answers.{answerOf, carried, answered}
 use Rattle.kernel.specs.Waits.{endWait, endEach}
-use Rattle.lines.proofs.Laws.Lines.{length-members, members-take}
 use Rattle.kernel.proofs.Laws.Waits.{each-more}
-use Rattle.kernel.proofs.Laws.Answers.{length-mapped, held-out}
+use Rattle.kernel.proofs.Laws.Answers.{held-out}
+use lib.ListN.{length-set}
+use Rattle.scheduler.specs.Choice.{rescheduled}
 use Rattle.kernel.proofs.Kernel.ended_each.Statement.{statement}
 use Rattle.kernel.proofs.Kernel.ended_each.Tie as tie
+use Rattle.kernel.proofs.Kernel.ended_each.Reads as reads
+use Rattle.kernel.proofs.Kernel.ended_each.Lts as lts
+use Rattle.kernel.proofs.Kernel.carried.Reads as carried-reads
+
 
 abbrev Inv-loop : tie.InvT-loop
-Inv-loop status ids n k₀ s₀ i₀ k s i = (i ≤ n) × (n ≤ 32) × (length ids ≡ 32) × (length (k .held) ≡ 32) × (withScheduler k s ≡ endEach (withScheduler k₀ s₀) status (take i ids))
+Inv-loop status self₀ ids n h s₀ i₀ self s i = (i ≤ n) × (n ≤ 32) × (length ids ≡ 32) × (length (self .held) ≡ 32) × (withScheduler self s ≡ endEach (withScheduler self₀ s₀) status (h .words) (take i ids))
 
 abbrev μ-loop : tie.MeasureT-loop
-μ-loop status ids n k₀ s₀ i₀ k s i = n - i
+μ-loop status self₀ ids n h s₀ i₀ self s i = n - i
 
 size-requires : tie.Need-size-requires Inv-loop μ-loop
 size-requires c κs = search needs
@@ -27,11 +38,14 @@ size-requires c κs = search needs
 cast-n : tie.Need-cast-n Inv-loop μ-loop
 cast-n c = search needs
 
+of-requires : tie.Need-of-requires Inv-loop μ-loop
+of-requires c κs = search needs
+
 loop-holds : tie.Need-loop-holds Inv-loop μ-loop
 unfolding endEach withScheduler
-loop-holds c =
-    let a = c .before .before .before .args in
-    let z = c .before .size .ensures in
+loop-holds c = 
+    let a = c .before .before .before .before .args in
+    let z = c .before .before .size .ensures in
     let o : length (a .line .ids) ≡ 32 = search needs in
     let w = length-members (a .line) o in
     (omega arith, omega (arith, z, w), o, search length-mapped, refl)
@@ -48,9 +62,6 @@ add-i c = search needs
 woken-requires : tie.Need-woken-requires Inv-loop μ-loop
 woken-requires c κs = search needs
 
-of-requires : tie.Need-of-requires Inv-loop μ-loop
-of-requires c κs = search needs
-
 mul-h : tie.Need-mul-h Inv-loop μ-loop
 mul-h c = search needs
 
@@ -61,33 +72,43 @@ loop-less : tie.Need-loop-less Inv-loop μ-loop
 loop-less c = search needs
 
 loop-again : tie.Need-loop-again Inv-loop μ-loop
-unfolding withScheduler withHeld endWait
-loop-again c =
+unfolding withScheduler withHeld endWait holding
+loop-again c = 
     let a = c .before .before .before .before .before .before .before .before .args in
-    let l = c .before .before .before .before .loop in
+    let l = c .before .before .before .loop in
     let x = getD (a .line .ids) (l .i) 0 in
     let h : l .i < length (a .line .ids) = omega arith in
-    (omega arith, omega arith, l .inv .2, simp length-set (l .inv .3), rw (c .before .before .woken .ensures, c .of .ensures) (ap (λ (u : Kernel). endWait u x (a .status) noWords) (l .inv .4) ∙ sym (each-more (a .self) (a .status) (a .line .ids) (l .i) h)))
+    let v = c .before .before .before .before .before .of .result in
+    let g : v ≡ holding (a .status) (v .words) = c .before .before .before .before .before .of .ensures ∙ sym (ap (λ (y : Held). holding (a .status) (y .words)) (c .before .before .before .before .before .of .ensures)) in
+    (omega arith, omega arith, l .inv .2, simp length-set (l .inv .3), rw (c .before .woken .ensures) ((λ j. withHeld (withScheduler (l .self) (woken (l .s) x)) x (g j)) ∙ ap (λ (u : Kernel). endWait u x (a .status) (v .words)) (l .inv .4) ∙ sym (each-more (a .t1) (a .status) (v .words) (a .line .ids) (l .i) h)))
 
 loop-less-2 : tie.Need-loop-less-2 Inv-loop μ-loop
 loop-less-2 c = search needs
 
 loop-again-2 : tie.Need-loop-again-2 Inv-loop μ-loop
 unfolding withScheduler withHeld endWait
-loop-again-2 c =
-    let a = c .before .before .before .before .before .before .before .args in
+loop-again-2 c = 
+    let a = c .before .before .before .before .before .before .before .before .args in
     let l = c .before .before .before .loop in
     let x = getD (a .line .ids) (l .i) 0 in
     let h : l .i < length (a .line .ids) = omega arith in
-    (omega arith, omega arith, l .inv .2, l .inv .3, rw (c .before .woken .ensures) (sym (held-out (withScheduler (l .k) (woken (l .s) x)) x (holding (a .status) noWords) (l .inv .3) (c .if1 .left)) ∙ ap (λ (u : Kernel). endWait u x (a .status) noWords) (l .inv .4) ∙ sym (each-more (a .self) (a .status) (a .line .ids) (l .i) h)))
+    let v = c .before .before .before .before .before .of .result in
+    (omega arith, omega arith, l .inv .2, l .inv .3, rw (c .before .woken .ensures) (sym (held-out (withScheduler (l .self) (woken (l .s) x)) x (holding (a .status) (v .words)) (l .inv .3) (c .if1 .left)) ∙ ap (λ (u : Kernel). endWait u x (a .status) (v .words)) (l .inv .4) ∙ sym (each-more (a .t1) (a .status) (v .words) (a .line .ids) (l .i) h)))
+
+cast-carried : tie.Need-cast-carried Inv-loop μ-loop
+cast-carried c = search needs
+
+carried-requires : tie.Need-carried-requires Inv-loop μ-loop
+carried-requires c κs = search needs
 
 returns : tie.Need-returns Inv-loop μ-loop
-unfolding withScheduler
-returns c =
-    let a = c .before .before .before .before .before .args in
-    let l = c .before .loop in
-    let n : l .i ≡ length (members (a .line)) = omega (arith, c .before .before .before .size .ensures) in
-    l .inv .4 ∙ ap (endEach (a .self) (a .status)) (ap (λ (j : ℕ). take j (a .line .ids)) n ∙ members-take (a .line))
+unfolding answerOf carried answered withScheduler holding
+returns c = 
+    let a = c .before .before .before .before .before .before .before .args in
+    let l = c .before .before .loop in
+    let n : l .i ≡ length (members (a .line)) = omega (arith, c .before .before .before .before .before .size .ensures) in
+    let e : withScheduler (l .self) (l .s) ≡ endEach (a .t1) (a .status) (a .words) (members (a .line)) = l .inv .4 ∙ (λ j. endEach (a .t1) (a .status) (c .before .before .before .before .of .ensures j .words) (take (l .i) (a .line .ids))) ∙ ap (endEach (a .t1) (a .status) (a .words)) (ap (λ (j : ℕ). take j (a .line .ids)) n ∙ members-take (a .line)) in
+    c .carried .ensures ∙ (λ j. record { status = 0; words = noWords; next = rescheduled (e j .scheduler) false .running; ended = c .before .before .before .before .before .size .ensures j; kernel = withScheduler (e j) (rescheduled (e j .scheduler) false) })
 
 pub ended-each-spec : {M : Type 1} → statement M
 ended-each-spec =
@@ -97,16 +118,18 @@ ended-each-spec =
     μ-loop
     size-requires
     cast-n
+    of-requires
     loop-holds
     array-read-x
     cast-t
     add-i
     woken-requires
-    of-requires
     mul-h
     element-set-from-h
     loop-less
     loop-again
     loop-less-2
     loop-again-2
+    cast-carried
+    carried-requires
     returns)

@@ -12,9 +12,10 @@ use Rattle.objects.specs.Queues.{noQueue}
 use Rattle.objects.specs.Groups.{noGroup}
 use Rattle.objects.specs.Pools.{noPool}
 use Rattle.calls.specs.Held.{noHeld}
-use Rattle.kernel.specs.Tables.{threadOf, heldAt, semaphoreAt}
-use Rattle.kernel.specs.Sound.{queueAt, groupAt, poolAt, heldFitb, waitFitb, soundb}
-use Rattle.kernel.proofs.Laws.Answers.{length-mapped}
+use Rattle.kernel.specs.Tables.{threadOf, heldAt, semaphoreAt, queueAt, groupAt, poolAt}
+use Rattle.waiting.specs.Fit.{heldFitb}
+use Rattle.kernel.specs.Sound.{waitFitb, soundb}
+use Rattle.scheduler.proofs.Laws.Threads.{length-mapped}
 use Rattle.kernel.proofs.Laws.Sound.{waits-none, waits-queue, waits-semaphore, waits-group, waits-pool, past-queues, past-semaphores, past-groups, past-pools, inside, outside, one-more, none-more, past-more}
 use Rattle.kernel.proofs.Kernel.is_sound.Statement.{statement}
 use Rattle.kernel.proofs.Kernel.is_sound.Tie as tie

@@ -6,7 +6,8 @@ use borrow.Author.Tests.{not-true, not-false}
 use lib.ListN.{take}
 use Rattle.kernel.specs.declared.Answer.{Answer}
 use Rattle.kernel.specs.Answers.{answerOf, carried}
-use Rattle.kernel.proofs.Laws.Answers.{length-mapped, is-refused}
+use Rattle.scheduler.proofs.Laws.Threads.{length-mapped}
+use Rattle.kernel.proofs.Laws.Answers.{is-refused}
 use Rattle.tape.specs.Tapes.{countOf, recordsOf, messagesOf}
 use Rattle.tape.proofs.Laws.Tapes.{count-most}
 use Rattle.kernel.specs.General.{step, call}

@@ -1,19 +1,29 @@
 use mathlib.Core.Path.{_≡_, sym, ap, _∙_}
 use Prim.Native.Nat.{_-_}
 use borrow.Author.Needs.{needs}
-use lib.ListN.{length}
+use mathlib.Core.Path.{_≡_, sym, ap, _∙_}
 use Rattle.lines.specs.Lines.{members}
 use Rattle.scheduler.specs.Orders.{lineAt}
 use Rattle.objects.specs.declared.semaphore.Semaphore.{Semaphore}
+use Rattle.calls.specs.Held.{noWords}
 use Rattle.calls.specs.Refusals.{semaphoreDeleteRefusal}
-use Rattle.kernel.specs.Tables.{semaphoreAt, withScheduler, withHeld, withSemaphore, withClock, given}
-use Rattle.kernel.specs.Answers.{answerOf, refused, carried, answered}
-use Rattle.kernel.specs.Waits.{endEach}
+use Rattle.kernel.specs.declared.Kernel.{Kernel}
+use Rattle.kernel.specs.Tables.{semaphoreAt, withSemaphore}
+use Rattle.kernel.specs.Answers.{answerOf, refused, carried}
 use Rattle.kernel.specs.Semaphores.{semaphorePlace, semaphoreDelete}
-use Rattle.kernel.proofs.Laws.Waits.{each-semaphores}
+use Rattle.kernel.proofs.Laws.Waits.{each-semaphore}
 use Rattle.kernel.proofs.Laws.Answers.{is-refused, is-carried}
+use Rattle.objects.specs.Semaphores.{noSemaphore}
 use Rattle.kernel.proofs.Kernel.semaphore_delete.Statement.{statement}
 use Rattle.kernel.proofs.Kernel.semaphore_delete.Tie as tie
+use Rattle.kernel.proofs.Kernel.semaphore_delete.Reads as reads
+use Rattle.kernel.proofs.Kernel.semaphore_delete.Lts as lts
+use Rattle.kernel.proofs.Kernel.ended_each.Reads as ended-each-reads
+use Rattle.kernel.proofs.Kernel.refused.Reads as refused-reads
+use Rattle.kernel.proofs.semaphore_in.Reads as semaphore-in-reads
+use Rattle.kernel.proofs.semaphores.place.Reads as place-reads
+use Rattle.kernel.proofs.semaphores.semaphores_with.Reads as semaphores-with-reads
+
 
 semaphore-in-requires : tie.Need-semaphore-in-requires
 semaphore-in-requires c κs = search needs
@@ -26,7 +36,7 @@ refused-requires c κs = search needs
 
 returns : tie.Need-returns
 unfolding semaphoreDelete semaphoreAt
-returns c =
+returns c = 
     let a = c .before .before .before .before .before .args in
     let e = c .before .before .semaphore-delete .ensures ∙ ap (λ (x : Semaphore). semaphoreDeleteRefusal x (a .caller)) (c .before .before .before .semaphore-in .ensures) in
     c .refused .ensures ∙ ap answerOf (ap (refused (a .self)) e ∙ sym (is-refused (a .self) (semaphoreDeleteRefusal (semaphoreAt (a .self) (a .n .0)) (a .caller)) _ (λ w. c .before .if1 .taken (e ∙ w))))
@@ -37,35 +47,24 @@ place-requires c κs = search needs
 line-at-requires : tie.Need-line-at-requires
 line-at-requires c κs = search needs
 
-ended-each-requires : tie.Need-ended-each-requires
-ended-each-requires c κs = search needs
-
 none-requires : tie.Need-none-requires
 none-requires c κs = search needs
 
 semaphores-with-requires : tie.Need-semaphores-with-requires
 semaphores-with-requires c κs = search needs
 
-size-requires : tie.Need-size-requires
-size-requires c κs = search needs
-
-cast-ended : tie.Need-cast-ended
-cast-ended c = search needs
-
-carried-requires : tie.Need-carried-requires
-carried-requires c κs = search needs
+ended-each-requires : tie.Need-ended-each-requires
+ended-each-requires c κs = search needs
 
 returns-2 : tie.Need-returns-2
-unfolding semaphoreDelete semaphoreAt answerOf carried answered given withHeld withScheduler withSemaphore withClock
-returns-2 c =
-    let a = c .before .before .before .before .before .before .before .before .before .before .before .before .before .args in
-    let e = c .before .before .before .before .before .before .before .before .before .before .semaphore-delete .ensures ∙ ap (λ (x : Semaphore). semaphoreDeleteRefusal x (a .caller)) (c .before .before .before .before .before .before .before .before .before .before .before .semaphore-in .ensures) in
-    let z : semaphoreDeleteRefusal (semaphoreAt (a .self) (a .n .0)) (a .caller) ≡ 0 = sym e ∙ c .before .before .before .before .before .before .before .before .before .if1 .left in
-    let m : members (c .before .before .before .before .before .before .line-at .result) ≡ lineAt (a .self .scheduler) (semaphorePlace (a .n .0)) = c .before .before .before .before .before .before .line-at .ensures .1 ∙ ap (lineAt (a .self .scheduler)) (c .before .before .before .before .before .before .before .place .ensures) in
-    let u = c .before .before .before .before .before .ended-each .ensures ∙ ap (endEach (a .self) 1) m in
-    let q = each-semaphores (a .self) 1 (lineAt (a .self .scheduler) (semaphorePlace (a .n .0))) in
-    let w = c .before .size .ensures ∙ ap length m in
-    rw is-carried (c .carried .ensures ∙ rw (c .before .before .before .semaphores-with .ensures, c .before .before .before .before .none .ensures, u, w, q))
+unfolding semaphoreDelete semaphoreAt withSemaphore
+returns-2 c = 
+    let a = c .before .before .before .before .before .before .before .before .before .before .args in
+    let e = c .before .before .before .before .before .before .before .semaphore-delete .ensures ∙ ap (λ (x : Semaphore). semaphoreDeleteRefusal x (a .caller)) (c .before .before .before .before .before .before .before .before .semaphore-in .ensures) in
+    let z : semaphoreDeleteRefusal (semaphoreAt (a .self) (a .n .0)) (a .caller) ≡ 0 = sym e ∙ c .before .before .before .before .before .before .if1 .left in
+    let m : members (c .before .before .before .line-at .result) ≡ lineAt (a .self .scheduler) (semaphorePlace (a .n .0)) = c .before .before .before .line-at .ensures .1 ∙ ap (lineAt (a .self .scheduler)) (c .before .before .before .before .place .ensures) in
+    let p = lineAt (a .self .scheduler) (semaphorePlace (a .n .0)) in
+    rw is-carried (c .ended-each .ensures ∙ rw (m, c .before .semaphores-with .ensures, c .before .before .none .ensures) (ap (λ (k : Kernel). answerOf (carried k 0 noWords p)) (each-semaphore (a .self) (a .n .0) noSemaphore 1 noWords p)))
 
 pub semaphore-delete-spec : {M : Type 1} → statement M
 semaphore-delete-spec =
@@ -77,10 +76,7 @@ semaphore-delete-spec =
     returns
     place-requires
     line-at-requires
-    ended-each-requires
     none-requires
     semaphores-with-requires
-    size-requires
-    cast-ended
-    carried-requires
+    ended-each-requires
     returns-2)

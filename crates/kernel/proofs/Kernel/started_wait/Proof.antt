@@ -9,7 +9,8 @@ use Rattle.calls.specs.Held.{noWords, holding}
 use Rattle.kernel.specs.Tables.{withScheduler, withHeld, withSemaphore, withClock, given}
 use Rattle.kernel.specs.Answers.{answerOf, carried, answered}
 use Rattle.kernel.specs.Waits.{startWait}
-use Rattle.kernel.proofs.Laws.Answers.{length-mapped, held-out}
+use Rattle.scheduler.proofs.Laws.Threads.{length-mapped}
+use Rattle.kernel.proofs.Laws.Answers.{held-out}
 use Rattle.kernel.proofs.Kernel.started_wait.Statement.{statement}
 use Rattle.kernel.proofs.Kernel.started_wait.Tie as tie
 
@@ -18,9 +19,6 @@ thread-at-requires c κs = search needs
 
 cast-i : tie.Need-cast-i
 cast-i c = search needs
-
-of-requires : tie.Need-of-requires
-of-requires c κs = search needs
 
 mul-h : tie.Need-mul-h
 mul-h c = search needs
@@ -31,19 +29,19 @@ element-set-from-h c = search needs
 in-state-requires : tie.Need-in-state-requires
 in-state-requires c κs = search needs
 
-moved-requires : tie.Need-moved-requires
-moved-requires c κs = search needs
+joined-requires : tie.Need-joined-requires
+joined-requires c κs = search needs
 
 carried-requires : tie.Need-carried-requires
 carried-requires c κs = search needs
 
 returns : tie.Need-returns
-unfolding startWait answerOf carried answered given withHeld withScheduler withSemaphore withClock
+unfolding startWait answerOf carried answered withHeld withScheduler
 returns c =
     let a = c .before .before .before .before .before .before .before .before .args in
     let l : length (a .t1 .held) ≡ 32 = length-mapped _ (a .t1 .held) 32 (c .before .before .before .before .before .before .before .before .good .0 .1 .1 .1 .0 .1 .0 .1) in
-    let m : c .before .before .before .if1 .self ≡ withHeld (a .t1) (a .t1 .scheduler .running .0) (holding 257 noWords) = ⊎-elim (λ w. w .2 ∙ ap (λ (h : Held). withHeld (a .t1) (a .t1 .scheduler .running .0) h) (w .1 .ensures)) (λ w. w .1 ∙ sym (held-out (a .t1) (a .t1 .scheduler .running .0) (holding 257 noWords) l (w .0 .left))) (c .before .before .before .if1 .came) in
-    rw (← c .before .before .before .before .before .thread-at .ensures) (c .carried .ensures ∙ rw (m, c .before .moved .ensures, c .before .before .in-state .ensures))
+    let m : c .before .before .before .if1 .self ≡ withHeld (a .t1) (a .t1 .scheduler .running .0) (a .h) = ⊎-elim (λ w. w .1) (λ w. w .1 ∙ sym (held-out (a .t1) (a .t1 .scheduler .running .0) (a .h) l (w .0 .left))) (c .before .before .before .if1 .came) in
+    rw (← c .before .before .before .before .before .thread-at .ensures) (c .carried .ensures ∙ rw (m, c .before .joined .ensures, c .before .before .in-state .ensures))
 
 pub started-wait-spec : {M : Type 1} → statement M
 started-wait-spec =
@@ -51,10 +49,9 @@ started-wait-spec =
     (tie.spec
     thread-at-requires
     cast-i
-    of-requires
     mul-h
     element-set-from-h
     in-state-requires
-    moved-requires
+    joined-requires
     carried-requires
     returns)

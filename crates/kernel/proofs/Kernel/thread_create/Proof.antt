@@ -16,7 +16,8 @@ use Rattle.calls.specs.Refusals.{unless, createRefusal}
 use Rattle.kernel.specs.Tables.{threadOf, withScheduler, withHeld, withSemaphore, withClock, given}
 use Rattle.kernel.specs.Answers.{answerOf, refused, carried, answered}
 use Rattle.kernel.specs.Threads.{threadCreate}
-use Rattle.kernel.proofs.Laws.Answers.{length-mapped, is-refused, is-carried, first-none, second-none, unless-none, held-out}
+use Rattle.scheduler.proofs.Laws.Threads.{length-mapped}
+use Rattle.kernel.proofs.Laws.Answers.{is-refused, is-carried, first-none, second-none, unless-none, held-out}
 use Rattle.kernel.proofs.Kernel.thread_create.Statement.{statement}
 use Rattle.kernel.proofs.Kernel.thread_create.Tie as tie
 

@@ -10,7 +10,8 @@ use Rattle.calls.specs.Refusals.{threadOnlyRefusal}
 use Rattle.kernel.specs.Tables.{withScheduler, withHeld, withSemaphore, withClock, given}
 use Rattle.kernel.specs.Answers.{answerOf, refused, carried, answered}
 use Rattle.kernel.specs.Threads.{threadFinish}
-use Rattle.kernel.proofs.Laws.Answers.{length-mapped, is-refused, is-carried, held-out}
+use Rattle.scheduler.proofs.Laws.Threads.{length-mapped}
+use Rattle.kernel.proofs.Laws.Answers.{is-refused, is-carried, held-out}
 use Rattle.kernel.proofs.Kernel.thread_finish.Statement.{statement}
 use Rattle.kernel.proofs.Kernel.thread_finish.Tie as tie
 

@@ -34,16 +34,19 @@ returns-2 c =
     let z : threadOnlyRefusal (a .caller) ≡ 0 = sym e ∙ c .before .before .before .if1 .left in
     rw (is-carried, eq-eqb (a .ticks) 0 (c .before .if2 .taken)) (c .carried .ensures)
 
+of-requires : tie.Need-of-requires
+of-requires c κs = search needs
+
 started-wait-requires : tie.Need-started-wait-requires
 started-wait-requires c κs = search needs
 
 returns-3 : tie.Need-returns-3
-unfolding threadSleep answerOf carried answered given withHeld withScheduler withSemaphore withClock
+unfolding threadSleep
 returns-3 c =
-    let a = c .before .before .before .before .before .args in
-    let e = c .before .before .before .before .thread-only .ensures in
-    let z : threadOnlyRefusal (a .caller) ≡ 0 = sym e ∙ c .before .before .before .if1 .left in
-    rw (is-carried, ne-eqb (a .ticks) 0 (c .before .if2 .left)) (c .started-wait .ensures)
+    let a = c .before .before .before .before .before .before .args in
+    let e = c .before .before .before .before .before .thread-only .ensures in
+    let z : threadOnlyRefusal (a .caller) ≡ 0 = sym e ∙ c .before .before .before .before .if1 .left in
+    rw (is-carried, ne-eqb (a .ticks) 0 (c .before .before .if2 .left)) (c .started-wait .ensures ∙ rw (c .before .of .ensures))
 
 pub thread-sleep-spec : {M : Type 1} → statement M
 thread-sleep-spec =
@@ -54,5 +57,6 @@ thread-sleep-spec =
     returns
     carried-requires
     returns-2
+    of-requires
     started-wait-requires
     returns-3)

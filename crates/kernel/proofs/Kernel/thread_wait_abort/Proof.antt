@@ -12,7 +12,8 @@ use Rattle.kernel.specs.Tables.{threadOf, withScheduler, withHeld, withS
 use Rattle.kernel.specs.Answers.{answerOf, refused, carried, answered}
 use Rattle.kernel.specs.Waits.{endWait}
 use Rattle.kernel.specs.Threads.{threadWaitAbort}
-use Rattle.kernel.proofs.Laws.Answers.{length-mapped, is-refused, is-carried, held-out}
+use Rattle.scheduler.proofs.Laws.Threads.{length-mapped}
+use Rattle.kernel.proofs.Laws.Answers.{is-refused, is-carried, held-out}
 use Rattle.kernel.proofs.Kernel.thread_wait_abort.Statement.{statement}
 use Rattle.kernel.proofs.Kernel.thread_wait_abort.Tie as tie
 

@@ -13,10 +13,12 @@ use Rattle.calls.specs.Refusals.{tickRefusal}
 use Rattle.kernel.specs.declared.Kernel.{Kernel}
 use Rattle.kernel.specs.Tables.{threadOf, heldAt, withScheduler, withHeld, withSemaphore, withClock, given}
 use Rattle.kernel.specs.Answers.{answerOf, refused, carried, answered}
-use Rattle.kernel.specs.Waits.{endWait, timedb, timeoutStatus, withTicks, lastTickb, tickBelow, timedOut, oneMore, ticked}
+use Rattle.waiting.specs.Ticks.{timedb, timeoutStatus, withTicks, lastTickb}
+use Rattle.kernel.specs.Waits.{endWait, tickBelow, timedOut, oneMore, ticked}
 use Rattle.kernel.specs.Clock.{tick}
 use Rattle.kernel.proofs.Laws.Waits.{below-other, more-below, more-ended, tick-last, tick-timed, tick-none, ticks-left, woken-sized}
-use Rattle.kernel.proofs.Laws.Answers.{length-mapped, is-refused, is-carried}
+use Rattle.scheduler.proofs.Laws.Threads.{length-mapped}
+use Rattle.kernel.proofs.Laws.Answers.{is-refused, is-carried}
 use Rattle.kernel.proofs.Kernel.tick.Statement.{statement}
 use Rattle.kernel.proofs.Kernel.tick.Tie as tie
 

@@ -4,7 +4,7 @@ use native.Mathlib.Omega.{arith}
 use borrow.Author.Needs.{needs}
 use lib.ListN.{length}
 use lib.Seq.{set-out}
-use Rattle.kernel.proofs.Laws.Answers.{length-mapped}
+use Rattle.scheduler.proofs.Laws.Threads.{length-mapped}
 use Rattle.kernel.proofs.semaphores.semaphores_with.Statement.{statement}
 use Rattle.kernel.proofs.semaphores.semaphores_with.Tie as tie
 

@@ -1,0 +1,12 @@
+use mathlib.Core.Path.{refl}
+use Prim.Native.Nat.{_-_}
+use Rattle.waiting.specs.Fit.{poolWaitb}
+use Rattle.waiting.proofs.fit.pool_waits.Statement.{statement}
+use Rattle.waiting.proofs.fit.pool_waits.Tie as tie
+
+returns : tie.Need-returns
+unfolding poolWaitb
+returns c = refl
+
+pub pool-waits-spec : {M : Type 1} → statement M
+pool-waits-spec = tie.close (tie.spec returns)

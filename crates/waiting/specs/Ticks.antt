@@ -1,0 +1,33 @@
+-- Ticks of one thread's wait.
+use mathlib.Core.Bool.{Bool, _&&_, not}
+use Prim.Native.Nat.{ℕ}
+use lib.Dec.{eqb, ltb}
+use Rattle.lines.specs.Logic.{if_then_else_}
+use Rattle.scheduler.specs.declared.thread.Thread.{Thread}
+use Rattle.scheduler.specs.Threads.{asleep, onQueue, onSemaphore, onFlags, pausedb}
+use Rattle.calls.specs.declared.held.Held.{Held}
+use Rattle.calls.specs.Statuses as Statuses
+
+-- a wait without end
+abbrev pub forever : ℕ
+forever = 0xFFFFFFFF
+
+-- a timed wait or sleep
+unfoldable pub timedb : Thread → Bool
+timedb th = pausedb th && not (eqb (th .ticks) forever)
+
+-- "Timed out: the object's last-row status (a sleeper: 0x00)"
+unfoldable pub timeoutStatus : Thread → Held → ℕ
+timeoutStatus th h =
+    if eqb (th .state) asleep then Statuses.success
+    else if eqb (th .state) onQueue then (if h .sending then Statuses.queueFull else Statuses.queueEmpty)
+    else if eqb (th .state) onSemaphore then Statuses.noInstance
+    else if eqb (th .state) onFlags then Statuses.noEvents
+    else Statuses.noMemory
+
+unfoldable pub withTicks : ℕ → Thread → Thread
+withTicks n th = record { created = th .created; state = th .state; priority = th .priority; threshold = th .threshold; marked = th .marked; suspending = th .suspending; object = th .object; ticks = n }
+
+-- a timed wait whose last tick this is
+unfoldable pub lastTickb : Thread → Bool
+lastTickb th = timedb th && ltb (th .ticks) 2
