@@ -4,7 +4,9 @@ use lib.Dec.{eqb, ltb}
 use Rattle.lines.specs.Logic.{if_then_else_}
 use Rattle.lines.specs.declared.ThreadId.{ThreadId}
 use Rattle.objects.specs.declared.semaphore.SemaphoreId.{SemaphoreId}
-use Rattle.calls.specs.declared.call.Call.the-variants.{ThreadCreate, ThreadDelete, ThreadResume, ThreadSuspend, ThreadTerminate, ThreadReset, ThreadFinish, ThreadRelinquish, ThreadSleep, ThreadWaitAbort, ThreadPriorityChange, ThreadPreemptionChange, TimeGet, TimeSet, Tick, SemaphoreCreate, SemaphoreDelete, SemaphoreGet, SemaphorePut, SemaphoreCeilingPut, SemaphorePrioritize, ThreadStateRead, ThreadWordsRead}
+use Rattle.objects.specs.declared.queue.QueueId.{QueueId}
+use Rattle.objects.specs.declared.group.GroupId.{GroupId}
+use Rattle.calls.specs.declared.call.Call.the-variants.{ThreadCreate, ThreadDelete, ThreadResume, ThreadSuspend, ThreadTerminate, ThreadReset, ThreadFinish, ThreadRelinquish, ThreadSleep, ThreadWaitAbort, ThreadPriorityChange, ThreadPreemptionChange, TimeGet, TimeSet, Tick, SemaphoreCreate, SemaphoreDelete, SemaphoreGet, SemaphorePut, SemaphoreCeilingPut, SemaphorePrioritize, QueueCreate, QueueDelete, QueueSend, QueueFrontSend, QueueReceive, QueueFlush, QueuePrioritize, EventFlagsCreate, EventFlagsDelete, EventFlagsSet, EventFlagsGet, ThreadStateRead, ThreadWordsRead}
 use Rattle.calls.specs.declared.call.Decoded.{Decoded}
 use Rattle.calls.specs.declared.call.Decoded.the-variants.{Known, Unknown}
 
@@ -24,6 +26,12 @@ threadNumber a = record { 0 = min a 32 }
 
 abbrev pub semaphoreNumber : ℕ → SemaphoreId
 semaphoreNumber a = record { 0 = min a 16 }
+
+abbrev pub queueNumber : ℕ → QueueId
+queueNumber a = record { 0 = min a 8 }
+
+abbrev pub groupNumber : ℕ → GroupId
+groupNumber a = record { 0 = min a 8 }
 
 -- the call of each number
 unfoldable pub knownCall : ℕ → ℕ → ℕ → ℕ → ℕ → Decoded
@@ -49,6 +57,17 @@ knownCall n a b c d =
     else if eqb n 19 then Known (SemaphorePut (semaphoreNumber a))
     else if eqb n 20 then Known (SemaphoreCeilingPut (semaphoreNumber a) b)
     else if eqb n 21 then Known (SemaphorePrioritize (semaphoreNumber a))
+    else if eqb n 22 then Known (QueueCreate (queueNumber a) b c)
+    else if eqb n 23 then Known (QueueDelete (queueNumber a))
+    else if eqb n 24 then Known (QueueSend (queueNumber a) b c)
+    else if eqb n 25 then Known (QueueFrontSend (queueNumber a) b c)
+    else if eqb n 26 then Known (QueueReceive (queueNumber a) b)
+    else if eqb n 27 then Known (QueueFlush (queueNumber a))
+    else if eqb n 28 then Known (QueuePrioritize (queueNumber a))
+    else if eqb n 29 then Known (EventFlagsCreate (groupNumber a))
+    else if eqb n 30 then Known (EventFlagsDelete (groupNumber a))
+    else if eqb n 31 then Known (EventFlagsSet (groupNumber a) b c)
+    else if eqb n 32 then Known (EventFlagsGet (groupNumber a) b c d)
     else if eqb n 38 then Known (ThreadStateRead (threadNumber a))
     else if eqb n 39 then Known (ThreadWordsRead (threadNumber a))
     else Unknown

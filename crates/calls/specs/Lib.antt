@@ -2,3 +2,4 @@ pub mod Statuses
 pub mod Held
 pub mod Calls
 pub mod Refusals
+pub mod Messages

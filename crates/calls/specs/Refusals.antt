@@ -1,11 +1,15 @@
 -- "Statuses": for each call the first reason that refuses it, read down 01's table and then left to right; 0 where there is none.
 use mathlib.Core.Bool.{Bool, _&&_, _||_, not}
-use Prim.Native.Nat.{ℕ}
+use Prim.Native.Nat.{ℕ, _+_}
 use lib.Dec.{eqb, ltb, leb}
 use Rattle.lines.specs.Logic.{if_then_else_}
 use Rattle.scheduler.specs.declared.thread.Thread.{Thread}
 use Rattle.scheduler.specs.Threads.{completed, terminated, suspended, pausedb}
 use Rattle.objects.specs.declared.semaphore.Semaphore.{Semaphore}
+use Rattle.objects.specs.declared.queue.Queue.{Queue}
+use Rattle.objects.specs.declared.group.Group.{Group}
+use Rattle.objects.specs.Queues.{emptyb, roomb, sizesFitb}
+use Rattle.objects.specs.Groups.{metb}
 use Rattle.calls.specs.Calls.{interrupt, thread}
 use Rattle.calls.specs.Statuses
 
@@ -139,3 +143,63 @@ ceilingRefusal x ceiling =
     firstOf (unless (x .created) Statuses.semaphoreError)
     (firstOf (unless (ltb 0 ceiling) Statuses.invalidCeiling)
     (unless (ltb (x .count) ceiling) Statuses.ceilingExceeded))
+
+-- ---- queues: n is the number, q its record
+-- 22 create: 09 05 13
+unfoldable pub queueCreateRefusal : ℕ → Queue → ℕ → ℕ → ℕ → ℕ
+queueCreateRefusal n q words storage caller =
+    firstOf (unless (ltb n 8 && not (q .created)) Statuses.queueError)
+    (firstOf (unless (sizesFitb words storage) Statuses.sizeError)
+    (unless (allowsS caller) Statuses.callerError))
+
+-- 23 delete: 09 13
+unfoldable pub queueDeleteRefusal : Queue → ℕ → ℕ
+queueDeleteRefusal q caller =
+    firstOf (unless (q .created) Statuses.queueError)
+    (unless (allowsT caller) Statuses.callerError)
+
+-- 24 send, 25 front send: 09 03 04 0B; the message at an index of an area of m words lies wholly inside
+unfoldable pub sendRefusal : Queue → ℕ → ℕ → ℕ → ℕ → ℕ
+sendRefusal q index m wait caller =
+    firstOf (unless (q .created) Statuses.queueError)
+    (firstOf (unless (leb (index + q .words) m) Statuses.ptrError)
+    (firstOf (unless (mayWaitb wait caller) Statuses.waitError)
+    (unless (ltb 0 wait || roomb q) Statuses.queueFull)))
+
+-- 26 receive: 09 04 0A
+unfoldable pub receiveRefusal : Queue → ℕ → ℕ → ℕ
+receiveRefusal q wait caller =
+    firstOf (unless (q .created) Statuses.queueError)
+    (firstOf (unless (mayWaitb wait caller) Statuses.waitError)
+    (unless (ltb 0 wait || not (emptyb q)) Statuses.queueEmpty))
+
+-- 27 flush, 28 prioritise: 09
+unfoldable pub queueRefusal : Queue → ℕ
+queueRefusal q = unless (q .created) Statuses.queueError
+
+-- ---- groups: n is the number, g its record
+-- 29 create: 06 13
+unfoldable pub groupCreateRefusal : ℕ → Group → ℕ → ℕ
+groupCreateRefusal n g caller =
+    firstOf (unless (ltb n 8 && not (g .created)) Statuses.groupError)
+    (unless (allowsS caller) Statuses.callerError)
+
+-- 30 delete: 06 13
+unfoldable pub groupDeleteRefusal : Group → ℕ → ℕ
+groupDeleteRefusal g caller =
+    firstOf (unless (g .created) Statuses.groupError)
+    (unless (allowsT caller) Statuses.callerError)
+
+-- 31 set: 06 08
+unfoldable pub setRefusal : Group → ℕ → ℕ
+setRefusal g option =
+    firstOf (unless (g .created) Statuses.groupError)
+    (unless (eqb option 0 || eqb option 2) Statuses.optionError)
+
+-- 32 get: 06 08 04 07
+unfoldable pub getRefusal : Group → ℕ → ℕ → ℕ → ℕ → ℕ
+getRefusal g request option wait caller =
+    firstOf (unless (g .created) Statuses.groupError)
+    (firstOf (unless (leb option 3) Statuses.optionError)
+    (firstOf (unless (mayWaitb wait caller) Statuses.waitError)
+    (unless (ltb 0 wait || metb (g .flags) request option) Statuses.noEvents)))

@@ -3,6 +3,8 @@ ghost use mathlib.Core.Path.{_≡_};
 ghost use Prim.Native.Nat.{min};
 ghost use Rattle.calls.specs.Calls.{decoded};
 use lines::ThreadId;
+use objects::group::GroupId;
+use objects::queue::QueueId;
 use objects::semaphore::SemaphoreId;
 
 pub const STARTUP: u32 = 0;
@@ -34,6 +36,17 @@ pub enum Call {
     SemaphorePut(SemaphoreId),
     SemaphoreCeilingPut(SemaphoreId, u32),
     SemaphorePrioritize(SemaphoreId),
+    QueueCreate(QueueId, u32, u32),
+    QueueDelete(QueueId),
+    QueueSend(QueueId, u32, u32),
+    QueueFrontSend(QueueId, u32, u32),
+    QueueReceive(QueueId, u32),
+    QueueFlush(QueueId),
+    QueuePrioritize(QueueId),
+    EventFlagsCreate(GroupId),
+    EventFlagsDelete(GroupId),
+    EventFlagsSet(GroupId, u32, u32),
+    EventFlagsGet(GroupId, u32, u32, u32),
     ThreadStateRead(ThreadId),
     ThreadWordsRead(ThreadId),
 }
@@ -66,6 +79,20 @@ pub fn semaphore_id(a: u32) -> SemaphoreId
     }
 }
 
+// A queue's number; every number past the last stands for none.
+pub fn queue_id(a: u32) -> QueueId
+    ensures { λ r. ⌜ r .0 ≡ min a 8 ⌝ }
+{
+    if a < 8 { QueueId(a as u8) } else { QueueId(8) }
+}
+
+// A group's number; every number past the last stands for none.
+pub fn group_id(a: u32) -> GroupId
+    ensures { λ r. ⌜ r .0 ≡ min a 8 ⌝ }
+{
+    if a < 8 { GroupId(a as u8) } else { GroupId(8) }
+}
+
 // The call of a number, a caller kind and four arguments.
 pub fn decode(number: u32, caller: u32, a: u32, b: u32, c: u32, d: u32) -> Decoded
     ensures { λ r. ⌜ r ≡ decoded number caller a b c d ⌝ }
@@ -75,6 +102,8 @@ pub fn decode(number: u32, caller: u32, a: u32, b: u32, c: u32, d: u32) -> Decod
     }
     let t = thread_id(a);
     let s = semaphore_id(a);
+    let q = queue_id(a);
+    let g = group_id(a);
     match number {
         1 => Decoded::Known(Call::ThreadCreate(t, b, c, d)),
         2 => Decoded::Known(Call::ThreadDelete(t)),
@@ -97,6 +126,17 @@ pub fn decode(number: u32, caller: u32, a: u32, b: u32, c: u32, d: u32) -> Decod
         19 => Decoded::Known(Call::SemaphorePut(s)),
         20 => Decoded::Known(Call::SemaphoreCeilingPut(s, b)),
         21 => Decoded::Known(Call::SemaphorePrioritize(s)),
+        22 => Decoded::Known(Call::QueueCreate(q, b, c)),
+        23 => Decoded::Known(Call::QueueDelete(q)),
+        24 => Decoded::Known(Call::QueueSend(q, b, c)),
+        25 => Decoded::Known(Call::QueueFrontSend(q, b, c)),
+        26 => Decoded::Known(Call::QueueReceive(q, b)),
+        27 => Decoded::Known(Call::QueueFlush(q)),
+        28 => Decoded::Known(Call::QueuePrioritize(q)),
+        29 => Decoded::Known(Call::EventFlagsCreate(g)),
+        30 => Decoded::Known(Call::EventFlagsDelete(g)),
+        31 => Decoded::Known(Call::EventFlagsSet(g, b, c)),
+        32 => Decoded::Known(Call::EventFlagsGet(g, b, c, d)),
         38 => Decoded::Known(Call::ThreadStateRead(t)),
         39 => Decoded::Known(Call::ThreadWordsRead(t)),
         _ => Decoded::Unknown,

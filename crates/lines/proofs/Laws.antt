@@ -3,3 +3,4 @@ pub mod Lists
 pub mod Bests
 pub mod Lines
 pub mod Tallies
+pub mod Bits

@@ -4,6 +4,7 @@ use mathlib.Core.List.{List, [], _∷_, _++_}
 use mathlib.Core.Bool.{Bool, true, _&&_, not}
 use Prim.Native.Nat.{ℕ, _+_, min}
 use lib.ListN.{getD}
+use lib.Bits.{bitOr}
 use lib.Dec.{eqb, ltb}
 use Rattle.lines.specs.Logic.{if_then_else_, oneIf}
 
@@ -70,6 +71,11 @@ bestOf key xs = firstOfKey key (leastOf key xs) xs
 -- the first of the best key goes to the front, and nothing else changes; where there is none, nobody goes there
 unfoldable pub prioritised : (ℕ → ℕ) → List ℕ → List ℕ
 prioritised key xs = onlyIf (ltb (bestOf key xs) nobody) (bestOf key xs) ++ without (bestOf key xs) xs
+
+-- the union of the flags of all in a list
+unfoldable pub unionOf : (ℕ → ℕ) → List ℕ → ℕ
+unionOf flags [] = 0
+unionOf flags (x ∷ xs) = bitOr (flags x) (unionOf flags xs)
 
 -- the list l begins with r
 abbrev pub Begins : List ℕ → List ℕ → Type 0

@@ -1,7 +1,7 @@
 -- An event flags group's record, and the flags that a request asks for.
-use mathlib.Core.Bool.{Bool, false, _&&_, _||_, not}
+use mathlib.Core.Bool.{Bool, true, false, _&&_, _||_, not}
 use Prim.Native.Nat.{ℕ}
-use lib.Bits.{bitAnd}
+use lib.Bits.{bitAnd, bitXor}
 use lib.Dec.{eqb, ltb}
 use Rattle.lines.specs.Logic.{if_then_else_}
 use Rattle.objects.specs.declared.group.Group.{Group}
@@ -9,6 +9,10 @@ use Rattle.objects.specs.declared.group.Group.{Group}
 -- not created: all zero
 unfoldable pub noGroup : Group
 noGroup = record { created = false; flags = 0 }
+
+-- a created group with these flags
+unfoldable pub groupWith : ℕ → Group
+groupWith flags = record { created = true; flags = flags }
 
 -- an uncreated record is zero
 abbrev pub groupFitb : Group → Bool
@@ -29,3 +33,15 @@ allSetb flags request = eqb (bitAnd flags request) request
 -- the flags meet a request under an option; a request of 0 is never met
 unfoldable pub metb : ℕ → ℕ → ℕ → Bool
 metb flags request option = not (eqb request 0) && (if orOptionb option then someSetb flags request else allSetb flags request)
+
+-- options 1 and 3 clear
+unfoldable pub clearsb : ℕ → Bool
+clearsb option = eqb option 1 || eqb option 3
+
+-- the flags that a request takes off once it is met: its own, or none
+unfoldable pub clearOf : ℕ → ℕ → ℕ
+clearOf request option = if clearsb option then request else 0
+
+-- flags without some others
+unfoldable pub lessFlags : ℕ → ℕ → ℕ
+lessFlags flags others = bitAnd flags (bitXor 0xFFFFFFFF others)

@@ -1,9 +1,11 @@
 -- A queue's record.
-use mathlib.Core.Bool.{Bool, false, _&&_}
-use Prim.Native.Nat.{ℕ, _*_, _/_}
-use lib.ListN.{replicate}
-use lib.Dec.{eqb, leb}
+use mathlib.Core.List.{List, [], _++_}
+use mathlib.Core.Bool.{Bool, true, false, _&&_}
+use Prim.Native.Nat.{ℕ, _+_, _-_, _*_, _/_}
+use lib.ListN.{take, drop, replicate}
+use lib.Dec.{eqb, ltb, leb}
 use Rattle.lines.specs.Logic.{if_then_else_}
+use Rattle.lines.specs.Lines.{pad}
 use Rattle.objects.specs.Slots.{slots, zeroFrom}
 use Rattle.objects.specs.declared.queue.Queue.{Queue}
 
@@ -23,14 +25,20 @@ emptyb q = eqb (q .stored) 0
 unfoldable pub fullb : Queue → Bool
 fullb q = eqb (q .stored) (capacityOf q)
 
+-- there is room for a further message
+unfoldable pub roomb : Queue → Bool
+roomb q = ltb (q .stored) (capacityOf q)
+
 -- the words of the store that the messages take
 unfoldable pub usedWords : Queue → ℕ
 usedWords q = q .stored * q .words
 
 -- a message has 1 to 16 words and the store 1 to 64, and at least one message fits
+unfoldable pub sizesFitb : ℕ → ℕ → Bool
+sizesFitb words storage = leb 1 words && leb words 16 && leb 1 storage && leb storage slots && leb 1 (storage / words)
+
 unfoldable pub queueLimitsb : Queue → Bool
-queueLimitsb q =
-    leb 1 (q .words) && leb (q .words) 16 && leb 1 (q .storage) && leb (q .storage) slots && leb 1 (capacityOf q)
+queueLimitsb q = sizesFitb (q .words) (q .storage)
 
 -- no more messages are stored than there is room for, and the store past them is zero
 unfoldable pub storeFitb : Queue → Bool
@@ -43,3 +51,48 @@ queueZerob q = eqb (q .words) 0 && eqb (q .storage) 0 && eqb (q .stored) 0 && ze
 -- the record is fit in itself, whoever waits
 unfoldable pub queueFitb : Queue → Bool
 queueFitb q = if q .created then (queueLimitsb q && storeFitb q) else queueZerob q
+
+-- ---- messages
+-- a created queue with no message
+unfoldable pub emptyQueue : ℕ → ℕ → Queue
+emptyQueue words storage = record { created = true; words = words; storage = storage; stored = 0; store = replicate 64 0 }
+
+-- the words of the stored messages, those of the oldest first
+unfoldable pub storedWords : Queue → List ℕ
+storedWords q = take (usedWords q) (q .store)
+
+-- the queue with so many messages, whose words these are; the store past them is zero
+unfoldable pub storing : Queue → ℕ → List ℕ → Queue
+storing q n ws = record { created = q .created; words = q .words; storage = q .storage; stored = n; store = pad slots ws }
+
+-- the oldest message, as sixteen words
+unfoldable pub oldest : Queue → List ℕ
+oldest q = pad 16 (take (q .words) (storedWords q))
+
+-- the oldest message leaves the store
+unfoldable pub withoutOldest : Queue → Queue
+withoutOldest q = storing q (q .stored - 1) (drop (q .words) (storedWords q))
+
+-- a message of sixteen words is stored behind the others, where there is room
+unfoldable pub withLast : Queue → List ℕ → Queue
+withLast q message = if roomb q then storing q (q .stored + 1) (storedWords q ++ take (q .words) message) else q
+
+-- a message of sixteen words is stored before the others, where there is room
+unfoldable pub withFirst : Queue → List ℕ → Queue
+withFirst q message = if roomb q then storing q (q .stored + 1) (take (q .words) message ++ storedWords q) else q
+
+-- "a front sender joins at the front": with room, a front send's message is stored before the others, an ordinary one's behind them
+unfoldable pub withSent : Queue → Bool → List ℕ → Queue
+withSent q front message = if front then withFirst q message else withLast q message
+
+-- "A receive with a front sender first in line gives that sender's message and leaves the store; with an ordinary sender first, it gives
+-- the oldest message and stores the sender's behind the others": what is given, and the queue that is left
+unfoldable pub givenPast : Queue → Bool → List ℕ → List ℕ
+givenPast q front message = if front then message else oldest q
+
+unfoldable pub leftPast : Queue → Bool → List ℕ → Queue
+leftPast q front message = if front then q else withLast (withoutOldest q) message
+
+-- no message is left
+unfoldable pub flushed : Queue → Queue
+flushed q = storing q 0 []

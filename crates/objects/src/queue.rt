@@ -1,7 +1,11 @@
 // A message queue: messages of `words` words in a store of `storage` words, the oldest first.
 ghost use mathlib.Core.Path.{_≡_};
 ghost use Rattle.objects.specs.Slots.{zeroFrom};
-ghost use Rattle.objects.specs.Queues.{noQueue, capacityOf, emptyb, fullb, usedWords, queueLimitsb, queueFitb};
+ghost use mathlib.Core.List.{_++_};
+ghost use Prim.Native.Nat.{_-_, min};
+ghost use lib.ListN.{getD};
+ghost use Rattle.lines.specs.Lines.{pad};
+ghost use Rattle.objects.specs.Queues.{noQueue, capacityOf, emptyb, fullb, roomb, usedWords, sizesFitb, queueLimitsb, queueFitb, emptyQueue, oldest, withoutOldest, withLast, withFirst, withSent, givenPast, leftPast, flushed};
 
 // The number of a queue, 0 to 7. 8 stands for none.
 pub struct QueueId(pub u8);
@@ -54,15 +58,18 @@ impl Queue {
         self.stored == self.capacity()
     }
 
+    // Whether there is room for a further message.
+    pub fn has_room(self) -> bool
+        ensures { λ r. ⌜ r ≡ roomb self ⌝ }
+    {
+        self.stored < self.capacity()
+    }
+
     // Whether the sizes are within bounds and a message fits.
     fn is_limited(self) -> bool
         ensures { λ r. ⌜ r ≡ queueLimitsb self ⌝ }
     {
-        (1 <= self.words)
-            & (self.words <= 16)
-            & (1 <= self.storage)
-            & (self.storage <= 64)
-            & (1 <= self.capacity())
+        sizes_fit(self.words as u32, self.storage as u32)
     }
 
     // Whether the words of the store behind the messages are zero.
@@ -92,4 +99,203 @@ impl Queue {
             (self.words == 0) & (self.storage == 0) & (self.stored == 0) & clean
         }
     }
+
+    // A created queue with no message. Sizes past a byte, which no queue has, become 255.
+    pub fn of(words: u32, storage: u32) -> Queue
+        ensures { λ r. ⌜ r ≡ emptyQueue (min words 255) (min storage 255) ⌝ }
+    {
+        Queue {
+            created: true,
+            words: byte_of(words),
+            storage: byte_of(storage),
+            stored: 0,
+            store: [0; 64],
+        }
+    }
+
+    // How many words of the store the messages take, 64 at the most.
+    fn used(self) -> usize
+        ensures { λ r. ⌜ r ≡ min (usedWords self) 64 ⌝ }
+    {
+        let words = (self.stored as usize) * (self.words as usize);
+        if words < 64 { words } else { 64 }
+    }
+
+    // The queue with so many messages, in this store.
+    fn storing(self, stored: u8, store: [u32; 64]) -> Queue
+        ensures { λ r. ⌜ r ≡ record { created = self .created; words = self .words; storage = self .storage; stored = stored; store = store } ⌝ }
+    {
+        Queue {
+            created: self.created,
+            words: self.words,
+            storage: self.storage,
+            stored,
+            store,
+        }
+    }
+
+    // The oldest message, as sixteen words.
+    pub fn oldest(self) -> [u32; 16]
+        ensures { λ r. ⌜ r ≡ oldest self ⌝ }
+    {
+        let store = self.store;
+        let used = self.used();
+        let size = at_most(self.words, used);
+        message_of(&store[..size])
+    }
+
+    // The queue without its oldest message.
+    pub fn without_oldest(self) -> Queue
+        ensures { λ r. ⌜ r ≡ withoutOldest self ⌝ }
+    {
+        let store = self.store;
+        let used = self.used();
+        let size = at_most(self.words, used);
+        let none: [u32; 1] = [0; 1];
+        let left = packed(&store[size..used], &none[..0]);
+        self.storing(one_less(self.stored), left)
+    }
+
+    // The queue with a message behind the others, where there is room.
+    pub fn with_last(self, message: [u32; 16]) -> Queue
+        ensures { λ r. ⌜ r ≡ withLast self message ⌝ }
+    {
+        if self.has_room() {
+            let store = self.store;
+            let used = self.used();
+            let size = at_most(self.words, 16);
+            let all = packed(&store[..used], &message[..size]);
+            self.storing(self.stored + 1, all)
+        } else {
+            self
+        }
+    }
+
+    // The queue with a message before the others, where there is room.
+    pub fn with_first(self, message: [u32; 16]) -> Queue
+        ensures { λ r. ⌜ r ≡ withFirst self message ⌝ }
+    {
+        if self.has_room() {
+            let store = self.store;
+            let used = self.used();
+            let size = at_most(self.words, 16);
+            let all = packed(&message[..size], &store[..used]);
+            self.storing(self.stored + 1, all)
+        } else {
+            self
+        }
+    }
+
+    // The queue with a sent message: a front send's before the others, an ordinary one's behind them.
+    pub fn with_sent(self, front: bool, message: [u32; 16]) -> Queue
+        ensures { λ r. ⌜ r ≡ withSent self front message ⌝ }
+    {
+        if front {
+            self.with_first(message)
+        } else {
+            self.with_last(message)
+        }
+    }
+
+    // What a receive gives while a sender with this message is first in line: a front sender's message goes past the store.
+    pub fn given_past(self, front: bool, message: [u32; 16]) -> [u32; 16]
+        ensures { λ r. ⌜ r ≡ givenPast self front message ⌝ }
+    {
+        if front { message } else { self.oldest() }
+    }
+
+    // The queue that such a receive leaves: an ordinary sender's message is stored behind the others.
+    pub fn left_past(self, front: bool, message: [u32; 16]) -> Queue
+        ensures { λ r. ⌜ r ≡ leftPast self front message ⌝ }
+    {
+        if front {
+            self
+        } else {
+            self.without_oldest().with_last(message)
+        }
+    }
+
+    // The queue with no message left.
+    pub fn flushed(self) -> Queue
+        ensures { λ r. ⌜ r ≡ flushed self ⌝ }
+    {
+        self.storing(0, [0; 64])
+    }
+}
+
+// Whether a message of 1 to 16 words, a store of 1 to 64, and room for at least one message.
+pub fn sizes_fit(words: u32, storage: u32) -> bool
+    ensures { λ r. ⌜ r ≡ sizesFitb words storage ⌝ }
+{
+    if words == 0 {
+        false
+    } else {
+        (1 <= words) & (words <= 16) & (1 <= storage) & (storage <= 64) & (1 <= storage / words)
+    }
+}
+
+// A size as a byte; 255, which is no size, stands for all larger ones.
+fn byte_of(x: u32) -> u8
+    ensures { λ r. ⌜ r ≡ min x 255 ⌝ }
+{
+    if x < 255 { x as u8 } else { 255 }
+}
+
+// A number of words, or `most` where it is larger.
+fn at_most(words: u8, most: usize) -> usize
+    ensures { λ r. ⌜ r ≡ min words most ⌝ }
+{
+    let n = words as usize;
+    if n < most { n } else { most }
+}
+
+// One less, and 0 of 0.
+fn one_less(x: u8) -> u8
+    ensures { λ r. ⌜ r ≡ x - 1 ⌝ }
+{
+    if x == 0 { 0 } else { x - 1 }
+}
+
+// The word at place `i`, 0 behind the last.
+fn word_at(words: &[u32], i: usize) -> u32
+    ensures { λ r. ⌜ r ≡ getD (now (words .entry)) i 0 ⌝ }
+{
+    if i < words.len() { words[i] } else { 0 }
+}
+
+// The word at place `i` of two parts one behind the other, 0 behind them.
+fn word_in(front: &[u32], back: &[u32], i: usize) -> u32
+    ensures { λ r. ⌜ r ≡ getD (now (front .entry) ++ now (back .entry)) i 0 ⌝ }
+{
+    if i < front.len() {
+        front[i]
+    } else {
+        word_at(back, i - front.len())
+    }
+}
+
+// A store of two parts one behind the other, zero behind them.
+fn packed(front: &[u32], back: &[u32]) -> [u32; 64]
+    ensures { λ r. ⌜ r ≡ pad 64 (now (front .entry) ++ now (back .entry)) ⌝ }
+{
+    let mut store: [u32; 64] = [0; 64];
+    let mut i: usize = 0;
+    while i < 64 {
+        store[i] = word_in(front, back, i);
+        i += 1;
+    }
+    store
+}
+
+// A message of these words, zero behind them.
+fn message_of(words: &[u32]) -> [u32; 16]
+    ensures { λ r. ⌜ r ≡ pad 16 (now (words .entry)) ⌝ }
+{
+    let mut message: [u32; 16] = [0; 16];
+    let mut i: usize = 0;
+    while i < 16 {
+        message[i] = word_at(words, i);
+        i += 1;
+    }
+    message
 }

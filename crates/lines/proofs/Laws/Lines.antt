@@ -1,21 +1,21 @@
 -- Laws of lines: what stands in a line that was made from a list.
 use mathlib.Core.Path.{_≡_, refl, sym, ap, _∙_, ap₂}
-use mathlib.Core.List.{List, [], _∷_, _++_, append-assoc}
+use mathlib.Core.List.{List, [], _∷_, _++_, append-assoc, append-nil}
 use mathlib.Core.Bool.{Bool, true, false, _||_}
 use Prim.Native.Nat.{ℕ, zero, suc, _+_, _-_, _≤_, _<_, min}
 use native.Mathlib.Nat.{not-suc-le-zero, le-of-suc-le-suc}
 use native.Mathlib.Omega.{arith}
 use native.Mathlib.Numerals.{add-one}
-use lib.ListN.{length, take, drop, getD, set, length-append, length-take}
+use lib.ListN.{length, take, drop, getD, set, replicate, length-append, length-take}
 use lib.Dec.{eqb, ltb, leb}
 use lib.Seq.{take-suc, take-all, take-append-le, take-nil, getD-take, drop-cons, drop-length, length-take-le}
 use borrow.Author.Tests.{eqb-true, eq-eqb, leb-true, le-leb, ltb-true, ltb-false}
 use Rattle.lines.specs.declared.Line.{Line}
 use Rattle.lines.specs.Logic.{allBelow}
-use Rattle.lines.specs.Lists.{without}
+use Rattle.lines.specs.Lists.{filter, without}
 use Rattle.lines.specs.Lines.{members, pad, lineOf, cleanb}
 use Rattle.lines.proofs.Laws.Logic.{by-test, and-left, and-right, and-in, or-left, or-right, or-rest, all-at, all-in}
-use Rattle.lines.proofs.Laws.Lists.{without-keep, without-skip}
+use Rattle.lines.proofs.Laws.Lists.{filter-yes, filter-no, filter-append, without-keep, without-skip}
 
 -- ---- slots
 -- what was put in stands at the front
@@ -30,6 +30,40 @@ unfolding pad
 pad-take zero xs = refl
 pad-take (suc n) [] = refl
 pad-take (suc n) (x ∷ xs) = ap {B = List ℕ} (λ r. x ∷ r) (pad-take n xs)
+
+pub length-pad : (n : ℕ) (xs : List ℕ) → length (pad n xs) ≡ n
+unfolding pad
+length-pad zero xs = refl
+length-pad (suc n) [] = ap suc (length-pad n [])
+length-pad (suc n) (x ∷ xs) = ap suc (length-pad n xs)
+
+pub pad-none : (n : ℕ) → replicate n 0 ≡ pad n []
+unfolding pad
+pad-none zero = refl
+pad-none (suc n) = ap {B = List ℕ} (λ r. 0 ∷ r) (pad-none n)
+
+-- a slot of the list, or zero behind it
+pub getD-pad : (n : ℕ) (xs : List ℕ) (i : ℕ) → i < n → getD (pad n xs) i 0 ≡ getD xs i 0
+unfolding pad
+getD-pad zero xs i h = absurd (not-suc-le-zero h)
+getD-pad (suc n) [] zero h = refl
+getD-pad (suc n) [] (suc i) h = getD-pad n [] i (le-of-suc-le-suc h)
+getD-pad (suc n) (x ∷ xs) zero h = refl
+getD-pad (suc n) (x ∷ xs) (suc i) h = getD-pad n xs i (le-of-suc-le-suc h)
+
+-- one slot more is filled, also behind the list's end
+pub pad-on : (n : ℕ) (xs : List ℕ) (i : ℕ) → set (pad n (take i xs)) i (getD xs i 0) ≡ pad n (take (i + 1) xs)
+unfolding pad
+pad-on n xs i = rw add-one (go n xs i)
+  where
+    go : (n : ℕ) (xs : List ℕ) (i : ℕ) → set (pad n (take i xs)) i (getD xs i 0) ≡ pad n (take (suc i) xs)
+    go zero xs i = refl
+    go (suc n) [] zero = refl
+    go (suc n) [] (suc i) =
+        ap {B = List ℕ} (λ r. 0 ∷ r)
+        (ap {B = List ℕ} (λ r. set (pad n r) i 0) (sym (take-nil i)) ∙ go n [] i)
+    go (suc n) (x ∷ xs) zero = refl
+    go (suc n) (x ∷ xs) (suc i) = ap {B = List ℕ} (λ r. x ∷ r) (go n xs i)
 
 -- a store into the first free slot
 set-pad : (n : ℕ) (xs : List ℕ) (t : ℕ) → length xs < n → set (pad n xs) (length xs) t ≡ pad n (xs ++ (t ∷ []))
@@ -138,6 +172,19 @@ pub gather-skip : (ys : List ℕ) (t : ℕ) (xs : List ℕ) (i : ℕ) → i < le
 gather-skip ys t xs i h e =
     ap {B = List ℕ} (λ r. ys ++ without t r) (take-one xs i h)
     ∙ ap {B = List ℕ} (λ r. ys ++ r) (without-skip t (getD xs i 0) (take i xs) e)
+
+-- one slot on: the part for which a test holds
+module _ (f : ℕ → Bool) (i : ℕ) (xs : List ℕ) (h : i < length xs) where
+  one-on : filter f (take (i + 1) xs) ≡ filter f (take i xs) ++ filter f (getD xs i 0 ∷ [])
+  one-on = ap (filter f) (take-one xs i h) ∙ filter-append f (take i xs) (getD xs i 0 ∷ [])
+
+  pub kept-one : f (getD xs i 0) ≡ true → filter f (take (i + 1) xs) ≡ filter f (take i xs) ++ (getD xs i 0 ∷ [])
+  unfolding filter
+  kept-one e = one-on ∙ ap {B = List ℕ} (λ r. filter f (take i xs) ++ r) (filter-yes f (getD xs i 0) [] e)
+
+  pub left-one : f (getD xs i 0) ≡ false → filter f (take (i + 1) xs) ≡ filter f (take i xs)
+  unfolding filter
+  left-one e = one-on ∙ ap {B = List ℕ} (λ r. filter f (take i xs) ++ r) (filter-no f (getD xs i 0) [] e) ∙ append-nil (filter f (take i xs))
 
 -- one slot back in the first n
 pub back : (n i : ℕ) (xs : List ℕ) → 0 < i → i ≤ length (take n xs) → drop (i - 1) (take n xs) ≡ getD xs (i - 1) 0 ∷ drop i (take n xs)

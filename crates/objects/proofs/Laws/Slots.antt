@@ -2,11 +2,11 @@
 use mathlib.Core.Path.{_≡_, refl, sym, ap, ap₂, _∙_}
 use mathlib.Core.List.{List, [], _∷_}
 use mathlib.Core.Bool.{Bool, true, false, _&&_, _||_}
-use Prim.Native.Nat.{ℕ, zero, suc, _*_, _≤_, _<_}
-use native.Mathlib.Nat.{mul-le-mul}
+use Prim.Native.Nat.{ℕ, zero, suc, _-_, _*_, _≤_, _<_, min}
+use native.Mathlib.Nat.{mul-le-mul, zero-min, suc-min-suc, sub-zero, zero-sub, suc-sub-suc}
 use native.Mathlib.Omega.{arith}
-use lib.ListN.{length, take, getD, replicate, length-replicate, getD-replicate}
-use lib.Seq.{ext-getD}
+use lib.ListN.{length, take, drop, getD, replicate, length-take, length-replicate, getD-replicate}
+use lib.Seq.{take-nil, drop-nil, ext-getD}
 use lib.Dec.{eqb, ltb}
 use borrow.Author.Tests.{eqb-true, eq-eqb, le-ltb, ltb-false}
 use Rattle.lines.specs.Logic.{allBelow}
@@ -34,6 +34,25 @@ pub take-again : (n : ℕ) (xs : List ℕ) → take (length (take n xs)) xs ≡ 
 take-again zero xs = refl
 take-again (suc n) [] = refl
 take-again (suc n) (x ∷ xs) = ap {B = List ℕ} (λ r. x ∷ r) (take-again n xs)
+
+-- no more than a list has
+pub take-most : (n k : ℕ) (xs : List ℕ) → k ≡ min n (length xs) → take k xs ≡ take n xs
+take-most n k xs e = ap (λ (j : ℕ). take j xs) (e ∙ sym (length-take n xs)) ∙ take-again n xs
+
+pub drop-most : (n k : ℕ) (xs : List ℕ) → k ≡ min n (length xs) → drop k xs ≡ drop n xs
+drop-most n k xs e = ap (λ (j : ℕ). drop j xs) e ∙ go n xs
+  where
+    go : (n : ℕ) (xs : List ℕ) → drop (min n (length xs)) xs ≡ drop n xs
+    go zero xs = ap (λ (j : ℕ). drop j xs) (zero-min (length xs))
+    go (suc n) [] = drop-nil (min (suc n) 0)
+    go (suc n) (x ∷ xs) = ap (λ (j : ℕ). drop j (x ∷ xs)) (suc-min-suc n (length xs)) ∙ go n xs
+
+-- a part from j to k
+pub part : (j k : ℕ) (xs : List ℕ) → take (k - j) (drop j xs) ≡ drop j (take k xs)
+part zero k xs = ap (λ (n : ℕ). take n xs) (sub-zero k)
+part (suc j) zero xs = ap (λ (n : ℕ). take n (drop (suc j) xs)) (zero-sub (suc j))
+part (suc j) (suc k) [] = take-nil (suc k - suc j)
+part (suc j) (suc k) (x ∷ xs) = ap (λ (n : ℕ). take n (drop j xs)) (suc-sub-suc k j) ∙ part j k xs
 
 -- ---- zero behind what is in use
 module _ (n : ℕ) (xs : List ℕ) where

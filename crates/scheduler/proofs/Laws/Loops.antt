@@ -1,6 +1,6 @@
 -- One step of each loop over the line or the threads.
 use mathlib.Core.Path.{_≡_, refl, sym, ap, _∙_}
-use mathlib.Core.List.{List, [], _∷_, _++_, map, append-nil}
+use mathlib.Core.List.{List, [], _∷_, _++_, map}
 use mathlib.Core.Bool.{Bool, true, false}
 use Prim.Native.Nat.{ℕ, suc, _+_, _<_}
 use native.Mathlib.Omega.{arith}
@@ -12,9 +12,8 @@ use Rattle.lines.specs.Lists.{filter, firstWith}
 use Rattle.lines.specs.Lines.{betterOf, bestWithKey}
 use Rattle.lines.specs.declared.Best.{Best}
 use Rattle.lines.proofs.Laws.Logic.{by-test}
-use Rattle.lines.proofs.Laws.Lists.{filter-yes, filter-no, filter-append, first-here, first-later}
+use Rattle.lines.proofs.Laws.Lists.{filter-yes, filter-no, first-here, first-later}
 use Rattle.lines.proofs.Laws.Bests.{better-step}
-use Rattle.lines.proofs.Laws.Lines.{take-one}
 use Rattle.scheduler.specs.declared.thread.Thread.{Thread}
 use Rattle.scheduler.specs.declared.Scheduler.{Scheduler}
 use Rattle.scheduler.specs.Orders.{threadAt, priorityAt}
@@ -55,19 +54,6 @@ module _ (f : ℕ → Bool) (n i : ℕ) (xs : List ℕ) (h : i < length (take n 
 
   pub first-passed : f (getD xs i 0) ≡ false → firstWith f (drop i (take n xs)) ≡ firstWith f (drop (i + 1) (take n xs))
   first-passed e = ap (firstWith f) (on n i xs h) ∙ first-later f (getD xs i 0) (drop (i + 1) (take n xs)) e
-
--- one slot on: the part for which a test holds
-module _ (f : ℕ → Bool) (i : ℕ) (xs : List ℕ) (h : i < length xs) where
-  one-on : filter f (take (i + 1) xs) ≡ filter f (take i xs) ++ filter f (getD xs i 0 ∷ [])
-  one-on = ap (filter f) (take-one xs i h) ∙ filter-append f (take i xs) (getD xs i 0 ∷ [])
-
-  pub kept-one : f (getD xs i 0) ≡ true → filter f (take (i + 1) xs) ≡ filter f (take i xs) ++ (getD xs i 0 ∷ [])
-  unfolding filter
-  kept-one e = one-on ∙ ap {B = List ℕ} (λ r. filter f (take i xs) ++ r) (filter-yes f (getD xs i 0) [] e)
-
-  pub left-one : f (getD xs i 0) ≡ false → filter f (take (i + 1) xs) ≡ filter f (take i xs)
-  unfolding filter
-  left-one e = one-on ∙ ap {B = List ℕ} (λ r. filter f (take i xs) ++ r) (filter-no f (getD xs i 0) [] e) ∙ append-nil (filter f (take i xs))
 
 -- a table filled from its start
 pub map-append : {A B : Type 0} (f : A → B) (xs ys : List A) → map f (xs ++ ys) ≡ map f xs ++ map f ys

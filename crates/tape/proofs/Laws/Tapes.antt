@@ -6,14 +6,14 @@ use Prim.Native.Nat.{ℕ, zero, suc, _+_, _≤_, _<_}
 use native.Mathlib.Nat.{not-suc-le-zero, le-of-suc-le-suc}
 use native.Mathlib.Omega.{arith}
 use native.Mathlib.Numerals.{add-one}
-use lib.ListN.{length, getD, take, drop, set, replicate, length-map, List·getD-eq-default, List·getD-map, drop-of-length-le}
+use lib.ListN.{length, getD, take, drop, length-map, List·getD-eq-default, List·getD-map, drop-of-length-le}
 use lib.Seq.{drop-cons, take-all}
 use lib.Dec.{eqb, ltb}
 use borrow.Author.Tests.{ltb-false, eqb-true, not-false}
 use Rattle.lines.specs.Lines.{pad}
 use Rattle.lines.proofs.Laws.Logic.{by-test, never}
 use Rattle.lines.proofs.Laws.Lists.{getD-any}
-use Rattle.lines.proofs.Laws.Lines.{take-pad}
+use Rattle.lines.proofs.Laws.Lines.{take-pad, length-pad}
 use Rattle.tape.specs.declared.Record.{Record}
 use Rattle.tape.specs.Tapes.{wordAt, headerBytes, mostRecords, mostMessageWords, recordsSaid, recordsOffset, messagesSaid, messagesOffset, recordsEnd, tapeEnd, refusedb, countOf, messageCountOf, noRecord, recordAt, messageAt, numbersFrom, recordsOf, messagesOf}
 
@@ -49,25 +49,6 @@ module _ {A : Type 0} (f : ℕ → A) (n : ℕ) where
       getD-any (map f (numbersFrom 0 n)) k d (f 0) (let l = length-made in omega (arith, l))
       ∙ List·getD-map f (numbersFrom 0 n) k 0
       ∙ ap f (let r = number-at 0 n k h in omega (arith, r))
-
--- ---- a table that is filled from the front
-pub length-pad : (n : ℕ) (xs : List ℕ) → length (pad n xs) ≡ n
-unfolding pad
-length-pad zero xs = refl
-length-pad (suc n) [] = ap suc (length-pad n [])
-length-pad (suc n) (x ∷ xs) = ap suc (length-pad n xs)
-
-pub pad-none : (n : ℕ) → replicate n 0 ≡ pad n []
-unfolding pad
-pad-none zero = refl
-pad-none (suc n) = ap {B = List ℕ} (λ r. 0 ∷ r) (pad-none n)
-
-pub pad-more : (n i : ℕ) (xs : List ℕ) → i < n → i < length xs → set (pad n (take i xs)) i (getD xs i 0) ≡ pad n (take (suc i) xs)
-unfolding pad
-pad-more zero i xs h l = absurd (not-suc-le-zero h)
-pad-more (suc n) i [] h l = absurd (not-suc-le-zero l)
-pad-more (suc n) zero (x ∷ xs) h l = refl
-pad-more (suc n) (suc i) (x ∷ xs) h l = ap {B = List ℕ} (λ r. x ∷ r) (pad-more n i xs (le-of-suc-le-suc h) (le-of-suc-le-suc l))
 
 -- ---- a tape that is not refused
 or-no-left : (a b : Bool) → (a || b) ≡ false → a ≡ false

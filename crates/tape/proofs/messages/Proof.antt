@@ -1,13 +1,13 @@
 use mathlib.Core.Path.{_≡_, sym, ap, _∙_}
-use Prim.Native.Nat.{_<_, _≤_, _+_, _-_, _*_}
+use Prim.Native.Nat.{_≤_, _+_, _-_, _*_}
 use native.Mathlib.Omega.{arith}
 use borrow.Author.Needs.{needs}
-use lib.ListN.{length, take, getD}
+use lib.ListN.{take, getD}
 use lib.Seq.{take-all}
-use native.Mathlib.Numerals.{add-one}
 use Rattle.lines.specs.Lines.{pad}
+use Rattle.lines.proofs.Laws.Lines.{pad-none, pad-on}
 use Rattle.tape.specs.Tapes.{wordAt, recordsEnd, tapeEnd, countOf, messageAt, messagesOf}
-use Rattle.tape.proofs.Laws.Tapes.{count-most, messages-most, length-messages, message-in, pad-none, pad-more}
+use Rattle.tape.proofs.Laws.Tapes.{count-most, messages-most, length-messages, message-in}
 use Rattle.tape.proofs.messages.Statement.{statement}
 use Rattle.tape.proofs.messages.Tie as tie
 
@@ -63,13 +63,11 @@ loop-again c =
     let l = c .before .before .loop in
     let a = c .before .before .before .before .before .before .before .args in
     let s = messagesOf (a .bytes .now) in
-    let k = length-messages (a .bytes .now) in
     let g = c .before .before .before .before .message-count .ensures in
-    let h : l .i < length s = omega (arith, k, g) in
     let at : c .before .before .before .records-end .result + 4 * l .i ≡ tapeEnd (countOf (a .bytes .now)) (l .i) = omega (arith, c .before .before .before .records-end .ensures, c .before .before .before .before .before .count .ensures) in
     let v : c .word .result ≡ getD s (l .i) 0 =
     c .word .ensures ∙ ap (wordAt (a .bytes .now)) at ∙ sym (message-in (a .bytes .now) (l .i) (omega (arith, g))) in
-    (omega arith, l .inv .1, rw (v, l .inv .2, add-one) (pad-more 4000 (l .i) s (omega arith) h))
+    (omega arith, l .inv .1, rw (v, l .inv .2) (pad-on 4000 s (l .i)))
 
 returns : tie.Need-returns Inv-loop μ-loop
 returns c =

@@ -7,12 +7,11 @@ use lib.ListN.{length, take, getD, length-set}
 use Rattle.lines.specs.Lists.{filter}
 use Rattle.lines.specs.Lines.{members, lineOf, pad}
 use Rattle.lines.proofs.Laws.Lists.{getD-any, length-part}
-use Rattle.lines.proofs.Laws.Lines.{length-members, members-take, one-more, members-short}
+use Rattle.lines.proofs.Laws.Lines.{length-members, members-take, one-more, members-short, kept-one, left-one}
 use Rattle.scheduler.specs.Threads.{noThread, placedb}
 use Rattle.lines.specs.declared.Line.{Line}
 use Rattle.scheduler.specs.Orders.{threadAt, lineAt}
 use Rattle.scheduler.proofs.Laws.Threads.{length-mapped, none-at, none-placed}
-use Rattle.scheduler.proofs.Laws.Loops.{kept-one, left-one}
 use Rattle.scheduler.proofs.Scheduler.line_at.Statement.{statement}
 use Rattle.scheduler.proofs.Scheduler.line_at.Tie as tie
 

@@ -1,0 +1,30 @@
+use Prim.Native.Nat.{_-_}
+use native.Mathlib.Omega.{arith}
+use borrow.Author.Needs.{needs}
+use Rattle.objects.specs.Queues.{usedWords}
+use Rattle.objects.proofs.Laws.Slots.{product-small}
+use Rattle.objects.proofs.queue.Queue.used.Statement.{statement}
+use Rattle.objects.proofs.queue.Queue.used.Tie as tie
+
+cast-words : tie.Need-cast-words
+cast-words c = search needs
+
+cast-words-2 : tie.Need-cast-words-2
+cast-words-2 c = search needs
+
+mul-words : tie.Need-mul-words
+mul-words c =
+    let s = c .before .before .args .self in
+    let l = product-small (s .stored) (s .words) (search needs) (search needs) in
+    record { fits = omega (arith, l) }
+
+returns : tie.Need-returns
+unfolding usedWords
+returns c = omega (arith, c .if1 .taken)
+
+returns-2 : tie.Need-returns-2
+unfolding usedWords
+returns-2 c = omega (arith, c .if1 .left)
+
+pub used-spec : {M : Type 1} → statement M
+used-spec = tie.close (tie.spec cast-words cast-words-2 mul-words returns returns-2)

@@ -1,0 +1,40 @@
+use mathlib.Core.Path.{_≡_, sym, ap, _∙_}
+use mathlib.Core.List.{_++_}
+use Prim.Native.Nat.{ℕ, _+_, _-_}
+use native.Mathlib.Omega.{arith}
+use borrow.Author.Needs.{needs}
+use lib.ListN.{length, getD}
+use lib.ListN.{List·getD-append}
+use lib.Seq.{getD-append-add}
+use Rattle.objects.proofs.queue.word_in.Statement.{statement}
+use Rattle.objects.proofs.queue.word_in.Tie as tie
+
+mul-result : tie.Need-mul-result
+mul-result c = search needs
+
+shared-slice-read-result : tie.Need-shared-slice-read-result
+shared-slice-read-result c = search needs
+
+sub-word-at : tie.Need-sub-word-at
+sub-word-at c = search needs
+
+word-at-requires : tie.Need-word-at-requires
+word-at-requires c κs = search needs
+
+returns : tie.Need-returns
+returns c =
+    let a = c .before .before .before .before .args in
+    sym (List·getD-append (a .front .now) (a .back .now) 0 (a .i) (c .before .if1 .taken))
+
+returns-2 : tie.Need-returns-2
+returns-2 c =
+    let a = c .before .before .before .before .args in
+    let e : length (a .front .now) + (a .i - length (a .front .now)) ≡ a .i = omega (arith, c .before .if1 .left) in
+    c .word-at .ensures
+    ∙ sym (getD-append-add (a .front .now) (a .back .now) (a .i - length (a .front .now)) 0)
+    ∙ ap (λ (k : ℕ). getD (a .front .now ++ a .back .now) k 0) e
+
+pub word-in-spec : {M : Type 1} → statement M
+word-in-spec =
+    tie.close
+    (tie.spec mul-result shared-slice-read-result sub-word-at word-at-requires returns returns-2)
