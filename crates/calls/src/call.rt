@@ -93,6 +93,13 @@ pub fn group_id(a: u32) -> GroupId
     if a < 8 { GroupId(a as u8) } else { GroupId(8) }
 }
 
+// A request's option as a byte; every option past the last stands for the one behind it.
+pub fn option_of(option: u32) -> u8
+    ensures { λ r. ⌜ r ≡ min option 4 ⌝ }
+{
+    if option < 4 { option as u8 } else { 4 }
+}
+
 // The call of a number, a caller kind and four arguments.
 pub fn decode(number: u32, caller: u32, a: u32, b: u32, c: u32, d: u32) -> Decoded
     ensures { λ r. ⌜ r ≡ decoded number caller a b c d ⌝ }

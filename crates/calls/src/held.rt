@@ -1,6 +1,7 @@
 // What a thread holds beside its scheduling record: the status and words that its last wait left it, and what it waits for.
 ghost use mathlib.Core.Path.{_≡_};
-ghost use Rattle.calls.specs.Held.{holding};
+ghost use Rattle.calls.specs.Held.{holding, sending, requesting};
+use super::status::WAITING;
 
 // `sending`, `front` and `message` are a waiting sender's, `request` and `option` those of a thread that waits for flags.
 pub struct Held {
@@ -25,6 +26,36 @@ impl Held {
             front: false,
             request: 0,
             option: 0,
+            message: [0; 16],
+        }
+    }
+
+    // A sender waits with its message, sixteen words by value.
+    pub fn sender(front: bool, message: [u32; 16]) -> Held
+        ensures { λ r. ⌜ r ≡ sending front message ⌝ }
+    {
+        Held {
+            status: WAITING,
+            words: [0; 16],
+            sending: true,
+            front,
+            request: 0,
+            option: 0,
+            message,
+        }
+    }
+
+    // A thread waits for flags.
+    pub fn requester(request: u32, option: u8) -> Held
+        ensures { λ r. ⌜ r ≡ requesting request option ⌝ }
+    {
+        Held {
+            status: WAITING,
+            words: [0; 16],
+            sending: false,
+            front: false,
+            request,
+            option,
             message: [0; 16],
         }
     }

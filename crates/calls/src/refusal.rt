@@ -1,17 +1,26 @@
 // For each call the first reason that refuses it, in the order of the papers' table; 0 where there is none.
 ghost use mathlib.Core.Path.{_≡_};
-ghost use Rattle.calls.specs.Refusals.{unless, firstOf, createRefusal, deleteRefusal, resumeRefusal, suspendRefusal, terminateRefusal, resetRefusal, threadOnlyRefusal, abortRefusal, priorityRefusal, preemptionRefusal, tickRefusal, readRefusal, semaphoreCreateRefusal, semaphoreDeleteRefusal, semaphoreGetRefusal, semaphoreRefusal, ceilingRefusal};
+ghost use Rattle.calls.specs.Refusals.{unless, firstOf, createRefusal, deleteRefusal, resumeRefusal, suspendRefusal, terminateRefusal, resetRefusal, threadOnlyRefusal, abortRefusal, priorityRefusal, preemptionRefusal, tickRefusal, readRefusal, semaphoreCreateRefusal, semaphoreDeleteRefusal, semaphoreGetRefusal, semaphoreRefusal, ceilingRefusal, queueCreateRefusal, queueDeleteRefusal, sendRefusal, receiveRefusal, queueRefusal, groupCreateRefusal, groupDeleteRefusal, setRefusal, getRefusal};
 use super::call::INTERRUPT;
 use super::call::THREAD;
+use super::call::option_of;
 use super::status::CALLER_ERROR;
 use super::status::CEILING_EXCEEDED;
 use super::status::DELETE_ERROR;
+use super::status::GROUP_ERROR;
 use super::status::INVALID_CEILING;
+use super::status::NO_EVENTS;
 use super::status::NO_INSTANCE;
 use super::status::NOT_DONE;
+use super::status::OPTION_ERROR;
 use super::status::PRIORITY_ERROR;
+use super::status::PTR_ERROR;
+use super::status::QUEUE_EMPTY;
+use super::status::QUEUE_ERROR;
+use super::status::QUEUE_FULL;
 use super::status::RESUME_ERROR;
 use super::status::SEMAPHORE_ERROR;
+use super::status::SIZE_ERROR;
 use super::status::START_ERROR;
 use super::status::SUSPEND_ERROR;
 use super::status::THREAD_ERROR;
@@ -19,6 +28,12 @@ use super::status::THRESH_ERROR;
 use super::status::WAIT_ABORT_ERROR;
 use super::status::WAIT_ERROR;
 use lines::ThreadId;
+use objects::group::Group;
+use objects::group::GroupId;
+use objects::group::is_met;
+use objects::queue::Queue;
+use objects::queue::QueueId;
+use objects::queue::sizes_fit;
 use objects::semaphore::Semaphore;
 use objects::semaphore::SemaphoreId;
 use scheduler::thread::COMPLETED;
@@ -220,6 +235,107 @@ pub fn ceiling_put(x: Semaphore, ceiling: u32) -> u32
         first(
             unless(0 < ceiling, INVALID_CEILING),
             unless(x.count < ceiling, CEILING_EXCEEDED),
+        ),
+    )
+}
+
+pub fn queue_create(n: QueueId, q: Queue, words: u32, storage: u32, caller: u32) -> u32
+    ensures { λ r. ⌜ r ≡ queueCreateRefusal (n .0) q words storage caller ⌝ }
+{
+    first(
+        unless((n.0 < 8) & !q.created, QUEUE_ERROR),
+        first(
+            unless(sizes_fit(words, storage), SIZE_ERROR),
+            unless(!(caller == INTERRUPT), CALLER_ERROR),
+        ),
+    )
+}
+
+pub fn queue_delete(q: Queue, caller: u32) -> u32
+    ensures { λ r. ⌜ r ≡ queueDeleteRefusal q caller ⌝ }
+{
+    first(
+        unless(q.created, QUEUE_ERROR),
+        unless(caller == THREAD, CALLER_ERROR),
+    )
+}
+
+// Send and front send; `area` is the number of words that are lent.
+pub fn send(q: Queue, index: u32, area: usize, wait: u32, caller: u32) -> u32
+    ensures { λ r. ⌜ r ≡ sendRefusal q index area wait caller ⌝ }
+{
+    first(
+        unless(q.created, QUEUE_ERROR),
+        first(
+            unless((index as usize) + (q.words as usize) <= area, PTR_ERROR),
+            first(
+                unless((wait == 0) | (caller == THREAD), WAIT_ERROR),
+                unless((0 < wait) | q.has_room(), QUEUE_FULL),
+            ),
+        ),
+    )
+}
+
+pub fn receive(q: Queue, wait: u32, caller: u32) -> u32
+    ensures { λ r. ⌜ r ≡ receiveRefusal q wait caller ⌝ }
+{
+    first(
+        unless(q.created, QUEUE_ERROR),
+        first(
+            unless((wait == 0) | (caller == THREAD), WAIT_ERROR),
+            unless((0 < wait) | !q.is_empty(), QUEUE_EMPTY),
+        ),
+    )
+}
+
+// Flush and prioritise.
+pub fn queue(q: Queue) -> u32
+    ensures { λ r. ⌜ r ≡ queueRefusal q ⌝ }
+{
+    unless(q.created, QUEUE_ERROR)
+}
+
+pub fn group_create(n: GroupId, g: Group, caller: u32) -> u32
+    ensures { λ r. ⌜ r ≡ groupCreateRefusal (n .0) g caller ⌝ }
+{
+    first(
+        unless((n.0 < 8) & !g.created, GROUP_ERROR),
+        unless(!(caller == INTERRUPT), CALLER_ERROR),
+    )
+}
+
+pub fn group_delete(g: Group, caller: u32) -> u32
+    ensures { λ r. ⌜ r ≡ groupDeleteRefusal g caller ⌝ }
+{
+    first(
+        unless(g.created, GROUP_ERROR),
+        unless(caller == THREAD, CALLER_ERROR),
+    )
+}
+
+pub fn flags_set(g: Group, option: u32) -> u32
+    ensures { λ r. ⌜ r ≡ setRefusal g option ⌝ }
+{
+    first(
+        unless(g.created, GROUP_ERROR),
+        unless((option == 0) | (option == 2), OPTION_ERROR),
+    )
+}
+
+pub fn flags_get(g: Group, request: u32, option: u32, wait: u32, caller: u32) -> u32
+    ensures { λ r. ⌜ r ≡ getRefusal g request option wait caller ⌝ }
+{
+    first(
+        unless(g.created, GROUP_ERROR),
+        first(
+            unless(option <= 3, OPTION_ERROR),
+            first(
+                unless((wait == 0) | (caller == THREAD), WAIT_ERROR),
+                unless(
+                    (0 < wait) | is_met(g.flags, request, option_of(option)),
+                    NO_EVENTS,
+                ),
+            ),
         ),
     )
 }
