@@ -5,6 +5,8 @@ pub mod Keeps
 pub mod KeepsThreads
 pub mod KeepsTicks
 pub mod KeepsSemaphores
+pub mod KeepsQueues
+pub mod KeepsGroups
 pub mod Claims
 pub mod Runs
 pub mod Cases

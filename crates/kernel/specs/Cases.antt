@@ -1,20 +1,27 @@
 -- Bench cases of document 01 on full-size tables, from nothing created, as equations that the definitions compute.
 -- Proved as `cases` of proofs/Laws/Cases.antt.
 use mathlib.Core.Path.{_≡_}
-use mathlib.Core.List.{[], _∷_}
+use mathlib.Core.List.{List, [], _∷_}
 use Prim.Native.Nat.{ℕ}
 use Rattle.scheduler.specs.Orders.{lineAt}
 use Rattle.calls.specs.Calls.{startup, interrupt, thread}
+use Rattle.objects.specs.Queues.{capacityOf}
+use Rattle.calls.specs.Held.{oneWord}
 use Rattle.calls.specs.Statuses as Statuses
 use Rattle.kernel.specs.declared.Kernel.{Kernel}
-use Rattle.kernel.specs.Tables.{started, runnerOf, heldAt, semaphoreAt}
+use Rattle.kernel.specs.Tables.{started, runnerOf, heldAt, semaphoreAt, queueAt, groupAt}
+use Rattle.kernel.specs.Answers.{Outcome}
 use Rattle.kernel.specs.Semaphores.{semaphorePlace}
 use Rattle.waiting.specs.Ticks.{forever}
 use Rattle.kernel.specs.General.{step}
 
+-- the lent area: three messages of one word, A, B and C
+abbrev pub area : List ℕ
+area = 10 ∷ 11 ∷ 12 ∷ []
+
 -- the tables after a call with up to four arguments
 unfoldable pub after : Kernel → ℕ → ℕ → ℕ → ℕ → ℕ → ℕ → Kernel
-after k number caller a b c d = step k number caller a b c d .kernel
+after k number caller a b c d = step k number caller a b c d area .kernel
 
 -- one thread of priority 10 runs, and semaphore 0 has a count
 unfoldable pub withCount : ℕ → Kernel
@@ -34,6 +41,28 @@ waits k t priority = after (after k 1 startup t priority priority 1) 18 thread 0
 unfoldable pub p9 : Kernel
 p9 = waits (waits (waits (after started 16 startup 0 0 0 0) 0 20) 1 5) 2 5
 
+-- a thread starts and waits for flags of group 0 by an option
+unfoldable pub asks : Kernel → ℕ → ℕ → ℕ → Kernel
+asks k t request option = after (after k 1 startup t 10 10 1) 32 thread 0 request option forever
+
+-- P4: flags 0, waiters OR and clear 1, OR 1, AND 3
+unfoldable pub p4 : Kernel
+p4 = asks (asks (asks (after started 29 startup 0 0 0 0) 0 1 1) 1 1 0) 2 3 2
+
+-- P5: a group with all flags set
+unfoldable pub p5 : Kernel
+p5 = after (after started 29 startup 0 0 0 0) 31 startup 0 0xFFFFFFFF 0 0
+
+-- P7: capacity 1 holding A; thread 0 waits to send B, then thread 1 waits to front send C
+unfoldable pub p7 : Kernel
+p7 =
+    after (after (after (after (after (after started 22 startup 0 1 1 0) 1 startup 0 10 10 1) 24 thread 0 0 0 0) 24 thread 0 forever 1 0) 1 startup 1 10 10 1)
+    25 thread 0 forever 2 0
+
+-- what a receive without waiting gives, and the tables that it leaves
+unfoldable pub receive : Kernel → Outcome
+receive k = step k 26 startup 0 0 0 0 area
+
 -- a get with wait 1 at count 0, and one tick
 unfoldable pub timedOutGet : Kernel
 timedOutGet = after (after (withCount 0) 18 thread 0 1 0 0) 15 interrupt 0 0 0 0
@@ -45,11 +74,21 @@ pub record Cases : Type 0 where
   pub p2 : semaphoreAt (after (withCount 0xFFFFFFFF) 19 interrupt 0 0 0 0) 0 .count ≡ 0
   -- P3: 7 changes nothing, 4 runs, it finishes: the runner returns, not 7
   pub p3 : (runnerOf p3a ≡ 0) × (runnerOf p3b ≡ 2) × (runnerOf (after p3b 7 thread 0 0 0 0) ≡ 0)
+  -- P4: set OR 1: the first two wake holding 1, flags 0, two ended
+  pub p4woken : step p4 31 interrupt 0 1 0 0 area .ended ≡ 0 ∷ 1 ∷ []
+  pub p4held : (heldAt (after p4 31 interrupt 0 1 0 0) 0 .words ≡ oneWord 1) × (heldAt (after p4 31 interrupt 0 1 0 0) 1 .words ≡ oneWord 1)
+  pub p4flags : groupAt (after p4 31 interrupt 0 1 0 0) 0 .flags ≡ 0
+  -- P5: flags all ones, request 0, wait 0: 0x07
+  pub p5 : step p5 32 startup 0 0 0 0 area .status ≡ Statuses.noEvents
+  -- P6: storage 10 of 4-word messages: capacity 2; storage 3: 0x05
+  pub p6 : (capacityOf (queueAt (after started 22 startup 0 4 10 0) 0) ≡ 2) × (step started 22 startup 0 4 3 0 area .status ≡ Statuses.sizeError)
+  -- P7: receives give C, A, B
+  pub p7 : (receive p7 .words ≡ oneWord 12) × (receive (receive p7 .kernel) .words ≡ oneWord 10) × (receive (receive (receive p7 .kernel) .kernel) .words ≡ oneWord 11)
   -- P9: waiters of priority 20, 5, 5: prioritise moves the middle one first
   pub p9line : lineAt (after p9 21 startup 0 0 0 0 .scheduler) (semaphorePlace 0) ≡ 1 ∷ 0 ∷ 2 ∷ []
   -- P10: count 3: ceiling 3 is 0x21, ceiling 4 done
-  pub p10 : (step (withCount 3) 20 interrupt 0 3 0 0 .status ≡ Statuses.ceilingExceeded) × (step (withCount 3) 20 interrupt 0 4 0 0 .status ≡ Statuses.success)
+  pub p10 : (step (withCount 3) 20 interrupt 0 3 0 0 area .status ≡ Statuses.ceilingExceeded) × (step (withCount 3) 20 interrupt 0 4 0 0 area .status ≡ Statuses.success)
   -- get, wait 1, count 0, one tick: held 0x0D
   pub timeout : heldAt timedOutGet 0 .status ≡ Statuses.noInstance
   -- interrupt with wait 1: 0x04 even at count 5
-  pub interruptWait : step (withCount 5) 18 interrupt 0 1 0 0 .status ≡ Statuses.waitError
+  pub interruptWait : step (withCount 5) 18 interrupt 0 1 0 0 area .status ≡ Statuses.waitError

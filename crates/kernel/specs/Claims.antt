@@ -1,6 +1,6 @@
 -- What is proved of the general call's definition, in one record. Its proof is `claims` of proofs/Laws/Claims.antt.
 use mathlib.Core.Path.{_≡_}
-use mathlib.Core.List.{[]}
+use mathlib.Core.List.{List, []}
 use mathlib.Core.Bool.{Bool, false, _||_}
 use Prim.Native.Nat.{ℕ}
 use lib.Dec.{eqb}
@@ -23,6 +23,6 @@ pub record Unchanged (k : Kernel) (o : Outcome) : Type 0 where
 
 pub record Claims : Type 0 where
   -- every call leaves sound tables sound
-  pub stepSound : (k : Kernel) → Sound k → (number caller a b c d : ℕ) → Sound (step k number caller a b c d .kernel)
+  pub stepSound : (k : Kernel) → Sound k → (number caller a b c d : ℕ) (messages : List ℕ) → Sound (step k number caller a b c d messages .kernel)
   -- "All others are refusals: tables unchanged, words and count zero"
-  pub refusedSame : (k : Kernel) (number caller a b c d : ℕ) → doneb (step k number caller a b c d .status) ≡ false → Unchanged k (step k number caller a b c d)
+  pub refusedSame : (k : Kernel) (number caller a b c d : ℕ) (messages : List ℕ) → doneb (step k number caller a b c d messages .status) ≡ false → Unchanged k (step k number caller a b c d messages)

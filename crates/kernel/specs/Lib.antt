@@ -4,6 +4,8 @@ pub mod Waits
 pub mod Threads
 pub mod Clock
 pub mod Semaphores
+pub mod Queues
+pub mod Groups
 pub mod Sound
 pub mod General
 pub mod Claims

@@ -16,8 +16,8 @@ use lines::ThreadId;
 
 impl Kernel {
     // A known call by a known caller.
-    fn service(self, caller: u32, call: Call) -> Answer
-        ensures { λ r. ⌜ r ≡ answerOf (service self caller call) ⌝ }
+    fn service(self, caller: u32, call: Call, messages: &[u32]) -> Answer
+        ensures { λ r. ⌜ r ≡ answerOf (service self caller call (now (messages .entry))) ⌝ }
     {
         match call {
             Call::ThreadCreate(t, priority, threshold, start) => self.thread_create(
@@ -55,14 +55,54 @@ impl Kernel {
             Call::SemaphorePut(n) => self.semaphore_put(n),
             Call::SemaphoreCeilingPut(n, ceiling) => self.semaphore_ceiling_put(n, ceiling),
             Call::SemaphorePrioritize(n) => self.semaphore_prioritize(n),
+            Call::QueueCreate(n, words, storage) => self.queue_create(caller, n, words, storage),
+            Call::QueueDelete(n) => self.queue_delete(caller, n),
+            Call::QueueSend(n, wait, index) => self.queue_send(
+                caller,
+                n,
+                wait,
+                index,
+                false,
+                messages,
+            ),
+            Call::QueueFrontSend(n, wait, index) => self.queue_send(
+                caller,
+                n,
+                wait,
+                index,
+                true,
+                messages,
+            ),
+            Call::QueueReceive(n, wait) => self.queue_receive(caller, n, wait),
+            Call::QueueFlush(n) => self.queue_flush(n),
+            Call::QueuePrioritize(n) => self.queue_prioritize(n),
+            Call::EventFlagsCreate(n) => self.event_flags_create(caller, n),
+            Call::EventFlagsDelete(n) => self.event_flags_delete(caller, n),
+            Call::EventFlagsSet(n, flags, option) => self.event_flags_set(n, flags, option),
+            Call::EventFlagsGet(n, request, option, wait) => self.event_flags_get(
+                caller,
+                n,
+                request,
+                option,
+                wait,
+            ),
             Call::ThreadStateRead(t) => self.thread_state_read(t),
             Call::ThreadWordsRead(t) => self.thread_words_read(t),
         }
     }
 
     // One call on tables that were tested before.
-    pub fn step(self, number: u32, caller: u32, a: u32, b: u32, c: u32, d: u32) -> Answer
-        ensures { λ r. ⌜ r ≡ answerOf (step self number caller a b c d) ⌝ }
+    pub fn step(
+        self,
+        number: u32,
+        caller: u32,
+        a: u32,
+        b: u32,
+        c: u32,
+        d: u32,
+        messages: &[u32],
+    ) -> Answer
+        ensures { λ r. ⌜ r ≡ answerOf (step self number caller a b c d (now (messages .entry))) ⌝ }
     {
         let decoded = decode(number, caller, a, b, c, d);
         let Decoded::Known(call) = decoded else {
@@ -73,10 +113,10 @@ impl Kernel {
         if (caller == THREAD) & !(r.0 < 32) {
             return self.refused(NOBODY_RUNS);
         }
-        self.service(caller, call)
+        self.service(caller, call, messages)
     }
 
-    // One call. Unsound tables are refused.
+    // One call. `messages` are the lent words that a send takes its message from. Unsound tables are refused.
     pub fn call(
         self,
         number: u32,
@@ -90,7 +130,7 @@ impl Kernel {
         ensures { λ r. ⌜ r ≡ call self number caller a b c d (now (messages .entry)) ⌝ }
     {
         if self.is_sound() {
-            return self.step(number, caller, a, b, c, d);
+            return self.step(number, caller, a, b, c, d, messages);
         }
         Answer {
             status: TABLES_UNSOUND,

@@ -19,6 +19,8 @@ use scheduler::Scheduler;
 
 pub mod clock;
 pub mod general;
+pub mod groups;
+pub mod queues;
 pub mod run;
 pub mod semaphores;
 pub mod sound;

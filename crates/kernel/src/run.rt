@@ -41,11 +41,13 @@ impl Kernel {
             };
         }
         let n = end as usize;
+        let words = tape::messages(bytes);
+        let m = tape::message_count(bytes) as usize;
         let mut k = self;
         let mut i: usize = 0;
         while i < n {
             let r = tape::record_at(bytes, i);
-            let a = k.step(r.call, r.caller, r.a, r.b, r.c, r.d);
+            let a = k.step(r.call, r.caller, r.a, r.b, r.c, r.d, &words[..m]);
             i += 1;
             let after = a.kernel;
             k = after;

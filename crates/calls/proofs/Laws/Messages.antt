@@ -4,14 +4,13 @@ use mathlib.Core.List.{List}
 use mathlib.Core.Bool.{Bool, true, false, _&&_}
 use Prim.Native.Nat.{ℕ, _+_, _-_, _≤_, _<_, min}
 use native.Mathlib.Omega.{arith}
-use native.Mathlib.Numerals.{add-one}
 use lib.ListN.{length, take, drop, getD, set, length-take, length-drop}
 use lib.Seq.{take-all, getD-take, getD-drop}
 use lib.Dec.{ltb}
 use borrow.Author.Tests.{ltb-true, ltb-false}
 use Rattle.lines.specs.Lines.{pad}
 use Rattle.lines.proofs.Laws.Logic.{by-test, and-left, and-right, never, and-in}
-use Rattle.lines.proofs.Laws.Lines.{pad-more}
+use Rattle.lines.proofs.Laws.Lines.{pad-on}
 
 module _ (area : List ℕ) (index words i : ℕ) where
   abbrev message : List ℕ
@@ -31,10 +30,8 @@ module _ (area : List ℕ) (index words i : ℕ) where
   pub word-in : (m : List ℕ) → m ≡ pad 16 (take i message) → i < 16 → insideb ≡ true → set m i (getD area (index + i) 0) ≡ pad 16 (take (i + 1) message)
   word-in m e h t =
       let u = ltb-true i words (and-left (ltb i words) (ltb (index + i) (length area)) t) in
-      let v = in-area t in
-      let l = length-message in
       let g : getD area (index + i) 0 ≡ getD message i 0 = sym (getD-take words (drop index area) i 0 u ∙ getD-drop index area i 0) in
-      rw (e, g, add-one) (pad-more 16 i message h (omega (arith, l, u, v)))
+      rw (e, g) (pad-on 16 message i)
 
   -- past the message nothing is stored
   pub word-past : insideb ≡ false → take i message ≡ take (i + 1) message

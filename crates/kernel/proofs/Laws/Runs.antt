@@ -48,7 +48,7 @@ take-smaller most bytes =
 -- on unsound tables each record answers 0x100 and changes nothing
 unsound-same : (k : Kernel) (ms : List ℕ) (r : Record) → soundb k ≡ false → afterRecord k ms r ≡ k
 unfolding afterRecord call unsound
-unsound-same k ms r e = ap (λ (b : Bool). (if b then answerOf (step k (r .call) (r .caller) (r .a) (r .b) (r .c) (r .d)) else unsound k) .kernel) e
+unsound-same k ms r e = ap (λ (b : Bool). (if b then answerOf (step k (r .call) (r .caller) (r .a) (r .b) (r .c) (r .d) ms) else unsound k) .kernel) e
 
 pub unsound-all : (k : Kernel) (ms : List ℕ) (rs : List Record) → soundb k ≡ false → afterRecords k ms rs ≡ k
 unfolding afterRecords
@@ -56,6 +56,6 @@ unsound-all k ms [] e = refl
 unsound-all k ms (r ∷ rs) e = ap (λ (x : Kernel). afterRecords x ms rs) (unsound-same k ms r e) ∙ unsound-all k ms rs e
 
 -- on sound ones it is the step
-pub sound-record : (k : Kernel) (ms : List ℕ) (r : Record) → Sound k → step k (r .call) (r .caller) (r .a) (r .b) (r .c) (r .d) .kernel ≡ afterRecord k ms r
+pub sound-record : (k : Kernel) (ms : List ℕ) (r : Record) → Sound k → step k (r .call) (r .caller) (r .a) (r .b) (r .c) (r .d) ms .kernel ≡ afterRecord k ms r
 unfolding afterRecord call answerOf
-sound-record k ms r S = sym (ap (λ (b : Bool). (if b then answerOf (step k (r .call) (r .caller) (r .a) (r .b) (r .c) (r .d)) else unsound k) .kernel) (passes k S))
+sound-record k ms r S = sym (ap (λ (b : Bool). (if b then answerOf (step k (r .call) (r .caller) (r .a) (r .b) (r .c) (r .d) ms) else unsound k) .kernel) (passes k S))

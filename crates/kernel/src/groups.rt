@@ -1,0 +1,147 @@
+// Event flags services.
+ghost use mathlib.Core.Path.{_≡_};
+ghost use lib.ListN.{getD, set};
+ghost use Rattle.objects.specs.Groups.{noGroup};
+ghost use Rattle.kernel.specs.Answers.{answerOf};
+ghost use Rattle.kernel.specs.Groups.{groupPlace, groupCreate, groupDelete, setOr, groupSet, groupGet};
+use super::Answer;
+use super::Kernel;
+use super::two_words;
+use calls::call::option_of;
+use calls::held::Held;
+use calls::refusal;
+use calls::status::DELETED;
+use calls::status::SUCCESS;
+use matching::woken;
+use objects::group::Group;
+use objects::group::GroupId;
+use objects::group::cleared_by;
+use objects::group::is_met;
+use objects::group::less;
+use scheduler::thread::ON_FLAGS;
+use scheduler::thread::Place;
+
+// The record of group `n`, that of an uncreated one past the table.
+fn group_in(all: [Group; 8], n: GroupId) -> Group
+    ensures { λ r. ⌜ r ≡ getD all (n .0) noGroup ⌝ }
+{
+    let i = n.0 as usize;
+    if i < 8 { all[i] } else { Group::none() }
+}
+
+// The groups with another record for `n`.
+fn groups_with(mut all: [Group; 8], n: GroupId, g: Group) -> [Group; 8]
+    ensures { λ r. ⌜ r ≡ set all (n .0) g ⌝ }
+{
+    let i = n.0 as usize;
+    if i < 8 {
+        all[i] = g;
+    }
+    all
+}
+
+// Where those who wait for flags of a group stand.
+fn place(n: GroupId) -> Place
+    ensures { λ r. ⌜ r ≡ groupPlace (n .0) ⌝ }
+{
+    Place {
+        state: ON_FLAGS,
+        number: n.0,
+    }
+}
+
+impl Kernel {
+    pub fn event_flags_create(mut self, caller: u32, n: GroupId) -> Answer
+        ensures { λ r. ⌜ r ≡ answerOf (groupCreate self caller (n .0)) ⌝ }
+    {
+        let all = self.groups;
+        let reason = refusal::group_create(n, group_in(all, n), caller);
+        if reason != 0 {
+            return self.refused(reason);
+        }
+        let s = self.scheduler;
+        let changed = groups_with(all, n, Group::of(0));
+        self.groups = changed;
+        self.carried(s, SUCCESS, [0; 16], 0)
+    }
+
+    pub fn event_flags_delete(mut self, caller: u32, n: GroupId) -> Answer
+        ensures { λ r. ⌜ r ≡ answerOf (groupDelete self caller (n .0)) ⌝ }
+    {
+        let all = self.groups;
+        let reason = refusal::group_delete(group_in(all, n), caller);
+        if reason != 0 {
+            return self.refused(reason);
+        }
+        let s = self.scheduler;
+        let line = s.line_at(place(n));
+        let changed = groups_with(all, n, Group::none());
+        self.groups = changed;
+        self.ended_each(line, DELETED, [0; 16])
+    }
+
+    // Whoever waits for flags that are now set is woken with them; clears are taken off afterwards.
+    fn set_or(mut self, n: GroupId, flags: u32) -> Answer
+        ensures { λ r. ⌜ r ≡ answerOf (setOr self (n .0) flags) ⌝ }
+    {
+        let mut requests: [u32; 32] = [0; 32];
+        let mut options: [u8; 32] = [0; 32];
+        let mut t: usize = 0;
+        while t < 32 {
+            let h = self.held[t];
+            requests[t] = h.request;
+            options[t] = h.option;
+            t += 1;
+        }
+        let s = self.scheduler;
+        let met = woken(s.line_at(place(n)), flags, requests, options);
+        let all = self.groups;
+        let changed = groups_with(all, n, Group::of(less(flags, met.clears)));
+        self.groups = changed;
+        self.ended_each(met.line, SUCCESS, two_words(flags, 0))
+    }
+
+    pub fn event_flags_set(mut self, n: GroupId, flags: u32, option: u32) -> Answer
+        ensures { λ r. ⌜ r ≡ answerOf (groupSet self (n .0) flags option) ⌝ }
+    {
+        let all = self.groups;
+        let g = group_in(all, n);
+        let reason = refusal::flags_set(g, option);
+        if reason != 0 {
+            return self.refused(reason);
+        }
+        if option == 0 {
+            return self.set_or(n, g.flags | flags);
+        }
+        let s = self.scheduler;
+        let changed = groups_with(all, n, Group::of(g.flags & flags));
+        self.groups = changed;
+        self.carried(s, SUCCESS, [0; 16], 0)
+    }
+
+    pub fn event_flags_get(
+        mut self,
+        caller: u32,
+        n: GroupId,
+        request: u32,
+        option: u32,
+        wait: u32,
+    ) -> Answer
+        ensures { λ r. ⌜ r ≡ answerOf (groupGet self caller (n .0) request option wait) ⌝ }
+    {
+        let all = self.groups;
+        let g = group_in(all, n);
+        let reason = refusal::flags_get(g, request, option, wait, caller);
+        if reason != 0 {
+            return self.refused(reason);
+        }
+        let o = option_of(option);
+        if is_met(g.flags, request, o) {
+            let s = self.scheduler;
+            let changed = groups_with(all, n, Group::of(less(g.flags, cleared_by(request, o))));
+            self.groups = changed;
+            return self.carried(s, SUCCESS, two_words(g.flags, 0), 0);
+        }
+        self.started_wait(false, ON_FLAGS, n.0, wait, Held::requester(request, o))
+    }
+}

@@ -1,0 +1,213 @@
+// Queue services.
+ghost use mathlib.Core.Path.{_≡_};
+ghost use mathlib.Core.Bool.{true, false};
+ghost use Rattle.calls.specs.Statuses.{success};
+ghost use Rattle.calls.specs.Messages.{messageIn};
+ghost use Rattle.kernel.specs.Tables.{withQueue};
+ghost use Rattle.kernel.specs.Answers.{answerOf, answered};
+ghost use Rattle.kernel.specs.Queues.{queuePlace, queueCreate, endQueue, queueDelete, sendTo, queueSend, receiveFrom, queueReceive, queueFlush, queuePrioritize};
+use super::Answer;
+use super::Kernel;
+use calls::held::Held;
+use calls::message::message_in;
+use calls::refusal;
+use calls::status::DELETED;
+use calls::status::QUEUE_ERROR;
+use calls::status::SUCCESS;
+use calls::status::WAITING;
+use objects::queue::Queue;
+use objects::queue::QueueId;
+use scheduler::Scheduler;
+use scheduler::thread::ON_QUEUE;
+use scheduler::thread::Place;
+
+// Where the waiters of a queue stand.
+fn place(n: QueueId) -> Place
+    ensures { λ r. ⌜ r ≡ queuePlace (n .0) ⌝ }
+{
+    Place {
+        state: ON_QUEUE,
+        number: n.0,
+    }
+}
+
+impl Kernel {
+    // The answer of a call that is done with another record for queue `n` and the scheduler `s`.
+    fn queue_carried(
+        mut self,
+        n: QueueId,
+        q: Queue,
+        s: Scheduler,
+        words: [u32; 16],
+        ended: u32,
+    ) -> Answer
+        ensures { λ r. ⌜ r ≡ answered (withQueue self (n .0) q) s success words ended ⌝ }
+    {
+        let i = n.0 as usize;
+        if i < 8 {
+            self.queues[i] = q;
+        }
+        self.carried(s, SUCCESS, words, ended)
+    }
+
+    // The waits of all at queue `n` end with a status, and the queue has another record.
+    fn queue_ended(mut self, n: QueueId, q: Queue, status: u32) -> Answer
+        ensures { λ r. ⌜ r ≡ answerOf (endQueue self (n .0) q status) ⌝ }
+    {
+        let s = self.scheduler;
+        let line = s.line_at(place(n));
+        let i = n.0 as usize;
+        if i < 8 {
+            self.queues[i] = q;
+        }
+        self.ended_each(line, status, [0; 16])
+    }
+
+    pub fn queue_create(self, caller: u32, n: QueueId, words: u32, storage: u32) -> Answer
+        ensures { λ r. ⌜ r ≡ answerOf (queueCreate self caller (n .0) words storage) ⌝ }
+    {
+        let i = n.0 as usize;
+        if 8 <= i {
+            return self.refused(QUEUE_ERROR);
+        }
+        let reason = refusal::queue_create(n, self.queues[i], words, storage, caller);
+        if reason != 0 {
+            return self.refused(reason);
+        }
+        let s = self.scheduler;
+        self.queue_carried(n, Queue::of(words, storage), s, [0; 16], 0)
+    }
+
+    pub fn queue_delete(self, caller: u32, n: QueueId) -> Answer
+        ensures { λ r. ⌜ r ≡ answerOf (queueDelete self caller (n .0)) ⌝ }
+    {
+        let i = n.0 as usize;
+        if 8 <= i {
+            return self.refused(QUEUE_ERROR);
+        }
+        let reason = refusal::queue_delete(self.queues[i], caller);
+        if reason != 0 {
+            return self.refused(reason);
+        }
+        self.queue_ended(n, Queue::none(), DELETED)
+    }
+
+    // A message goes to the first receiver in line, or into the store, or waits with its sender.
+    fn sent(mut self, n: QueueId, q: Queue, wait: u32, front: bool, message: [u32; 16]) -> Answer
+        ensures { λ r. ⌜ r ≡ answerOf (sendTo self (n .0) q wait front message) ⌝ }
+    {
+        if !q.has_room() {
+            return self.started_wait(front, ON_QUEUE, n.0, wait, Held::sender(front, message));
+        }
+        let s = self.scheduler;
+        let f = s.first_at(place(n));
+        let i = f.0 as usize;
+        if i < 32 {
+            let h = Held::of(SUCCESS, message);
+            self.held[i] = h;
+            return self.carried(s.woken(f), SUCCESS, [0; 16], 1);
+        }
+        self.queue_carried(n, q.with_sent(front, message), s, [0; 16], 0)
+    }
+
+    // Send, and front send where `front` says so. The message is at `index` of the lent words.
+    pub fn queue_send(
+        self,
+        caller: u32,
+        n: QueueId,
+        wait: u32,
+        index: u32,
+        front: bool,
+        messages: &[u32],
+    ) -> Answer
+        ensures { λ r. ⌜ r ≡ answerOf (queueSend self caller (n .0) wait index front (now (messages .entry))) ⌝ }
+    {
+        let i = n.0 as usize;
+        if 8 <= i {
+            return self.refused(QUEUE_ERROR);
+        }
+        let q = self.queues[i];
+        let reason = refusal::send(q, index, messages.len(), wait, caller);
+        if reason != 0 {
+            return self.refused(reason);
+        }
+        self.sent(n, q, wait, front, message_in(messages, index, q.words))
+    }
+
+    // The receiver waits, or gets a message; the first sender in line may then pass or store its own.
+    fn received(mut self, n: QueueId, q: Queue, wait: u32) -> Answer
+        ensures { λ r. ⌜ r ≡ answerOf (receiveFrom self (n .0) q wait) ⌝ }
+    {
+        if q.is_empty() {
+            return self.started_wait(
+                false,
+                ON_QUEUE,
+                n.0,
+                wait,
+                Held::of(WAITING, [0; 16]),
+            );
+        }
+        let s = self.scheduler;
+        let f = s.first_at(place(n));
+        let i = f.0 as usize;
+        if i < 32 {
+            let sender = self.held[i];
+            let message = sender.message;
+            let words = q.given_past(sender.front, message);
+            let left = q.left_past(sender.front, message);
+            let h = Held::of(SUCCESS, [0; 16]);
+            self.held[i] = h;
+            return self.queue_carried(n, left, s.woken(f), words, 1);
+        }
+        self.queue_carried(n, q.without_oldest(), s, q.oldest(), 0)
+    }
+
+    pub fn queue_receive(self, caller: u32, n: QueueId, wait: u32) -> Answer
+        ensures { λ r. ⌜ r ≡ answerOf (queueReceive self caller (n .0) wait) ⌝ }
+    {
+        let i = n.0 as usize;
+        if 8 <= i {
+            return self.refused(QUEUE_ERROR);
+        }
+        let q = self.queues[i];
+        let reason = refusal::receive(q, wait, caller);
+        if reason != 0 {
+            return self.refused(reason);
+        }
+        self.received(n, q, wait)
+    }
+
+    pub fn queue_flush(self, n: QueueId) -> Answer
+        ensures { λ r. ⌜ r ≡ answerOf (queueFlush self (n .0)) ⌝ }
+    {
+        let i = n.0 as usize;
+        if 8 <= i {
+            return self.refused(QUEUE_ERROR);
+        }
+        let q = self.queues[i];
+        let reason = refusal::queue(q);
+        if reason != 0 {
+            return self.refused(reason);
+        }
+        if q.is_empty() {
+            let s = self.scheduler;
+            return self.carried(s, SUCCESS, [0; 16], 0);
+        }
+        self.queue_ended(n, q.flushed(), SUCCESS)
+    }
+
+    pub fn queue_prioritize(self, n: QueueId) -> Answer
+        ensures { λ r. ⌜ r ≡ answerOf (queuePrioritize self (n .0)) ⌝ }
+    {
+        let i = n.0 as usize;
+        if 8 <= i {
+            return self.refused(QUEUE_ERROR);
+        }
+        let reason = refusal::queue(self.queues[i]);
+        if reason != 0 {
+            return self.refused(reason);
+        }
+        let s = self.scheduler;
+        self.carried(s.prioritised(place(n)), SUCCESS, [0; 16], 0)
+    }
+}
