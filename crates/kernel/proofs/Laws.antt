@@ -2,6 +2,7 @@ pub mod Answers
 pub mod Waits
 pub mod Sound
 pub mod Keeps
+pub mod KeepsLines
 pub mod KeepsThreads
 pub mod KeepsTicks
 pub mod KeepsSemaphores

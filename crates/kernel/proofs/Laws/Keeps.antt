@@ -7,7 +7,7 @@ use native.Mathlib.Omega.{arith}
 use lib.ListN.{length, length-set}
 use lib.Seq.{getD-set-same, getD-set-other, set-getD}
 use lib.Dec.{eqb, leb}
-use borrow.Author.Tests.{eqb-true, ne-eqb}
+use borrow.Author.Tests.{eqb-true, eq-eqb, ne-eqb}
 use Rattle.lines.specs.Logic.{implies, allBelow}
 use Rattle.lines.specs.Lists.{count}
 use Rattle.lines.proofs.Laws.Logic.{by-eq, by-choice, and-left, and-right, and-in, implies-out, implies-in}
@@ -23,14 +23,16 @@ use Rattle.scheduler.proofs.Laws.Choosing
 use Rattle.scheduler.proofs.Laws.States
 use Rattle.objects.specs.declared.semaphore.Semaphore.{Semaphore}
 use Rattle.objects.specs.Semaphores.{noSemaphore, semaphoreFitb}
-use Rattle.objects.specs.Queues.{queueFitb}
-use Rattle.objects.specs.Groups.{groupFitb}
+use Rattle.objects.specs.declared.queue.Queue.{Queue}
+use Rattle.objects.specs.declared.group.Group.{Group}
+use Rattle.objects.specs.Queues.{noQueue, queueFitb}
+use Rattle.objects.specs.Groups.{noGroup, groupFitb}
 use Rattle.objects.specs.Pools.{poolFitb}
 use Rattle.calls.specs.declared.held.Held.{Held}
-use Rattle.calls.specs.Held.{noWords, holding, noHeld}
+use Rattle.calls.specs.Held.{noWords, holding, noHeld, waiting, sending, requesting}
 use Rattle.calls.specs.Statuses as Statuses
 use Rattle.kernel.specs.declared.Kernel.{Kernel}
-use Rattle.kernel.specs.Tables.{threadOf, runnerOf, heldAt, semaphoreAt, withScheduler, withHeld, withSemaphore, withClock, given, queueAt, groupAt, poolAt}
+use Rattle.kernel.specs.Tables.{threadOf, runnerOf, heldAt, semaphoreAt, withScheduler, withHeld, withSemaphore, withQueue, withGroup, withClock, given, queueAt, groupAt, poolAt}
 use Rattle.kernel.specs.Answers.{Outcome, refused, carried, guarded}
 use Rattle.kernel.specs.Waits.{endWait, endEach, startWait}
 use Rattle.waiting.specs.Fit.{blankFrom, waitsOnb, sendsb, statusFitb, wordsFitb, senderFitb, requestFitb, unheldFitb, heldFitb, semaphoreWaitb, queueWaitb, groupWaitb, poolWaitb}
@@ -300,6 +302,36 @@ held-waiting th made waits q f =
     let b = other-state 7 th f in
     held-by th (holding Statuses.waiting noWords) ∙ (λ i. heldBy (p i) (a i) (b i) (made i) (holding Statuses.waiting noWords))
 
+-- a thread in a state waits there
+pub in-state : (n : ℕ) (th : Thread) → th .created ≡ true → th .state ≡ n → waitsOnb n th ≡ true
+unfolding waitsOnb
+in-state n th made e = and-in (th .created) (eqb (th .state) n) made (eq-eqb (th .state) n e)
+
+-- a waiter on a queue, and one for flags
+held-queue : (th : Thread) → th .created ≡ true → th .state ≡ 5 → (h : Held) → heldFitb th h ≡ heldBy true true false true h
+held-queue th made e h =
+    let p = States.paused-in th made (omega (arith, e)) in
+    let q = in-state 5 th made e in
+    let f = other-state 7 th (λ z. omega (arith, e, z)) in
+    held-by th h ∙ (λ i. heldBy (p i) (q i) (f i) (made i) h)
+
+pub held-receiving : (th : Thread) → th .created ≡ true → th .state ≡ 5 → heldFitb th waiting ≡ true
+unfolding heldBy holding implies blankFrom allBelow
+held-receiving th made e = held-queue th made e waiting
+
+pub held-sending : (front : Bool) (message : List ℕ) (th : Thread) → th .created ≡ true → th .state ≡ 5 → heldFitb th (sending front message) ≡ true
+unfolding heldBy sending implies blankFrom allBelow
+held-sending true message th made e = held-queue th made e (sending true message)
+held-sending false message th made e = held-queue th made e (sending false message)
+
+pub held-requesting : (request option : ℕ) → leb option 3 ≡ true → (th : Thread) → th .created ≡ true → th .state ≡ 7 → heldFitb th (requesting request option) ≡ true
+unfolding heldBy requesting implies blankFrom allBelow
+held-requesting request option known th made e =
+    let p = States.paused-in th made (omega (arith, e)) in
+    let q = other-state 5 th (λ z. omega (arith, e, z)) in
+    let f = in-state 7 th made e in
+    held-by th (requesting request option) ∙ (λ i. heldBy (p i) (q i) (f i) (made i) (requesting request option)) ∙ rw known
+
 pub held-none : heldFitb uncreated noHeld ≡ true
 unfolding heldFitb statusFitb wordsFitb senderFitb sendsb requestFitb unheldFitb waitsOnb pausedb waitsb sleepsb uncreated holding implies blankFrom allBelow
 held-none = refl
@@ -334,17 +366,40 @@ module _ (k : Kernel) (th : Thread) (h : Held) where
       (unasked 7 th (groupWaitb h (groupAt k (th .object))) (λ q. omega (arith, e, q)))
       (unasked 8 th (poolWaitb (poolAt k (th .object))) (λ q. omega (arith, e, q)))
 
-  pub asked-semaphore : waitOf k th h ≡ true → semaphoreAsk k th ≡ true
+  -- who waits on a queue
+  pub wait-queue : th .state ≡ 5 → queueWaitb h (queueAt k (th .object)) ≡ true → waitOf k th h ≡ true
   unfolding waitOf
-  asked-semaphore w =
-      and-right (queueAsk k th h) (semaphoreAsk k th)
-      (and-left (queueAsk k th h && semaphoreAsk k th) (groupAsk k th h) (and-left (queueAsk k th h && semaphoreAsk k th && groupAsk k th h) (poolAsk k th) w))
+  wait-queue e x =
+      four (queueAsk k th h) (semaphoreAsk k th) (groupAsk k th h) (poolAsk k th)
+      (implies-in (waitsOnb 5 th) (queueWaitb h (queueAt k (th .object))) (λ w. x))
+      (unasked 6 th (semaphoreWaitb (semaphoreAt k (th .object))) (λ q. omega (arith, e, q)))
+      (unasked 7 th (groupWaitb h (groupAt k (th .object))) (λ q. omega (arith, e, q)))
+      (unasked 8 th (poolWaitb (poolAt k (th .object))) (λ q. omega (arith, e, q)))
+
+  -- who waits for flags
+  pub wait-group : th .state ≡ 7 → groupWaitb h (groupAt k (th .object)) ≡ true → waitOf k th h ≡ true
+  unfolding waitOf
+  wait-group e x =
+      four (queueAsk k th h) (semaphoreAsk k th) (groupAsk k th h) (poolAsk k th)
+      (unasked 5 th (queueWaitb h (queueAt k (th .object))) (λ q. omega (arith, e, q)))
+      (unasked 6 th (semaphoreWaitb (semaphoreAt k (th .object))) (λ q. omega (arith, e, q)))
+      (implies-in (waitsOnb 7 th) (groupWaitb h (groupAt k (th .object))) (λ w. x))
+      (unasked 8 th (poolWaitb (poolAt k (th .object))) (λ q. omega (arith, e, q)))
+
+  -- what is asked of each kind of object
+  pub asked : waitOf k th h ≡ true → (queueAsk k th h ≡ true) × (semaphoreAsk k th ≡ true) × (groupAsk k th h ≡ true) × (poolAsk k th ≡ true)
+  unfolding waitOf
+  asked w =
+      let c = and-left (queueAsk k th h && semaphoreAsk k th && groupAsk k th h) (poolAsk k th) w in
+      let b = and-left (queueAsk k th h && semaphoreAsk k th) (groupAsk k th h) c in
+      (
+        and-left (queueAsk k th h) (semaphoreAsk k th) b,
+        and-right (queueAsk k th h) (semaphoreAsk k th) b,
+        and-right (queueAsk k th h && semaphoreAsk k th) (groupAsk k th h) c,
+        and-right (queueAsk k th h && semaphoreAsk k th && groupAsk k th h) (poolAsk k th) w,
+      )
 
 -- ---- one semaphore gets a record
--- nobody waits on semaphore n
-abbrev pub Free : Kernel → ℕ → Type 0
-Free k n = (t : ℕ) → t < 32 → waitsOnb onSemaphore (threadOf k t) ≡ true → threadOf k t .object ≡ n → ⊥
-
 module _ (k : Kernel) (F : Fit k) (n : ℕ) (x : Semaphore) (small : n < 16) where
   semaphore-self : semaphoreAt (withSemaphore k n x) n ≡ x
   unfolding semaphoreAt withSemaphore
@@ -354,23 +409,23 @@ module _ (k : Kernel) (F : Fit k) (n : ℕ) (x : Semaphore) (small : n < 16) whe
   unfolding semaphoreAt withSemaphore
   semaphore-other m o = getD-set-other (k .semaphores) n m x noSemaphore o
 
-  -- who waits on another semaphore, or on none, waits as before
-  wait-other : (th : Thread) (h : Held) → (waitsOnb 6 th ≡ true → th .object ≡ n → ⊥) → waitOf k th h ≡ true → waitOf (withSemaphore k n x) th h ≡ true
+  -- who waits on it may wait on the new record, and all others wait as before
+  semaphore-waits : (th : Thread) (h : Held) → (waitsOnb 6 th ≡ true → th .object ≡ n → semaphoreWaitb x ≡ true) → waitOf k th h ≡ true → waitOf (withSemaphore k n x) th h ≡ true
   unfolding waitOf withSemaphore queueAt groupAt poolAt
-  wait-other th h o w =
-      let ask = semaphoreWaitb (semaphoreAt k (th .object)) in
-      let d = and-left (queueAsk k th h && semaphoreAsk k th && groupAsk k th h) (poolAsk k th) w in
-      let c = and-left (queueAsk k th h && semaphoreAsk k th) (groupAsk k th h) d in
+  semaphore-waits th h here w =
+      let p = asked k th h w in
       four (queueAsk k th h) (semaphoreAsk (withSemaphore k n x) th) (groupAsk k th h) (poolAsk k th)
-      (and-left (queueAsk k th h) (semaphoreAsk k th) c)
+      (p .0)
       (implies-in (waitsOnb 6 th) (semaphoreWaitb (semaphoreAt (withSemaphore k n x) (th .object)))
-      (λ e. ap semaphoreWaitb (semaphore-other (th .object) (o e)) ∙ implies-out (waitsOnb 6 th) ask (and-right (queueAsk k th h) (semaphoreAsk k th) c) e))
-      (and-right (queueAsk k th h && semaphoreAsk k th) (groupAsk k th h) d)
-      (and-right (queueAsk k th h && semaphoreAsk k th && groupAsk k th h) (poolAsk k th) w)
+      (λ e. by-eq (th .object) n
+      (λ m. ap (λ (y : ℕ). semaphoreWaitb (semaphoreAt (withSemaphore k n x) y)) m ∙ ap (λ (y : Semaphore). semaphoreWaitb y) semaphore-self ∙ here e m)
+      (λ m. ap (λ (y : Semaphore). semaphoreWaitb y) (semaphore-other (th .object) m) ∙ implies-out (waitsOnb 6 th) (semaphoreWaitb (semaphoreAt k (th .object))) (p .1) e)))
+      (p .2)
+      (p .3)
 
-  pub fit-semaphore : semaphoreFitb x ≡ true → Free k n → Fit (withSemaphore k n x)
+  pub fit-semaphore : semaphoreFitb x ≡ true → ((t : ℕ) → t < 32 → waitsOnb 6 (threadOf k t) ≡ true → threadOf k t .object ≡ n → semaphoreWaitb x ≡ true) → Fit (withSemaphore k n x)
   unfolding withSemaphore heldAt queueAt groupAt poolAt
-  fit-semaphore fit free =
+  fit-semaphore fit here =
       record {
         steady = F .steady;
         heldSized = F .heldSized;
@@ -379,12 +434,100 @@ module _ (k : Kernel) (F : Fit k) (n : ℕ) (x : Semaphore) (small : n < 16) whe
         groupsSized = F .groupsSized;
         poolsSized = F .poolsSized;
         held = F .held;
-        waits = λ t l. wait-other (threadOf k t) (heldAt k t) (free t l) (F .waits t l);
+        waits = λ t l. semaphore-waits (threadOf k t) (heldAt k t) (here t l) (F .waits t l);
         semaphores = λ m l. by-eq m n
-            (λ e. ap (λ (y : ℕ). semaphoreFitb (semaphoreAt (withSemaphore k n x) y)) e ∙ ap semaphoreFitb semaphore-self ∙ fit)
-            (λ o. ap semaphoreFitb (semaphore-other m o) ∙ F .semaphores m l);
+            (λ e. ap (λ (y : ℕ). semaphoreFitb (semaphoreAt (withSemaphore k n x) y)) e ∙ ap (λ (y : Semaphore). semaphoreFitb y) semaphore-self ∙ fit)
+            (λ o. ap (λ (y : Semaphore). semaphoreFitb y) (semaphore-other m o) ∙ F .semaphores m l);
         queues = F .queues;
         groups = F .groups;
+        pools = F .pools;
+      }
+
+-- ---- one queue gets a record
+module _ (k : Kernel) (F : Fit k) (n : ℕ) (x : Queue) (small : n < 8) where
+  queue-self : queueAt (withQueue k n x) n ≡ x
+  unfolding queueAt withQueue
+  queue-self = getD-set-same (k .queues) n x noQueue (let e = F .queuesSized in omega (arith, e, small))
+
+  queue-other : (m : ℕ) → (m ≡ n → ⊥) → queueAt (withQueue k n x) m ≡ queueAt k m
+  unfolding queueAt withQueue
+  queue-other m o = getD-set-other (k .queues) n m x noQueue o
+
+  -- who waits on it may wait on the new record, and all others wait as before
+  queue-waits : (th : Thread) (h : Held) → (waitsOnb 5 th ≡ true → th .object ≡ n → queueWaitb h x ≡ true) → waitOf k th h ≡ true → waitOf (withQueue k n x) th h ≡ true
+  unfolding waitOf withQueue semaphoreAt groupAt poolAt
+  queue-waits th h here w =
+      let p = asked k th h w in
+      four (queueAsk (withQueue k n x) th h) (semaphoreAsk k th) (groupAsk k th h) (poolAsk k th)
+      (implies-in (waitsOnb 5 th) (queueWaitb h (queueAt (withQueue k n x) (th .object)))
+      (λ e. by-eq (th .object) n
+      (λ m. ap (λ (y : ℕ). queueWaitb h (queueAt (withQueue k n x) y)) m ∙ ap (λ (y : Queue). queueWaitb h y) queue-self ∙ here e m)
+      (λ m. ap (λ (y : Queue). queueWaitb h y) (queue-other (th .object) m) ∙ implies-out (waitsOnb 5 th) (queueWaitb h (queueAt k (th .object))) (p .0) e)))
+      (p .1)
+      (p .2)
+      (p .3)
+
+  pub fit-queue : queueFitb x ≡ true → ((t : ℕ) → t < 32 → waitsOnb 5 (threadOf k t) ≡ true → threadOf k t .object ≡ n → queueWaitb (heldAt k t) x ≡ true) → Fit (withQueue k n x)
+  unfolding withQueue heldAt semaphoreAt groupAt poolAt
+  fit-queue fit here =
+      record {
+        steady = F .steady;
+        heldSized = F .heldSized;
+        semaphoresSized = F .semaphoresSized;
+        queuesSized = length-set (k .queues) n x ∙ F .queuesSized;
+        groupsSized = F .groupsSized;
+        poolsSized = F .poolsSized;
+        held = F .held;
+        waits = λ t l. queue-waits (threadOf k t) (heldAt k t) (here t l) (F .waits t l);
+        semaphores = F .semaphores;
+        queues = λ m l. by-eq m n
+            (λ e. ap (λ (y : ℕ). queueFitb (queueAt (withQueue k n x) y)) e ∙ ap (λ (y : Queue). queueFitb y) queue-self ∙ fit)
+            (λ o. ap (λ (y : Queue). queueFitb y) (queue-other m o) ∙ F .queues m l);
+        groups = F .groups;
+        pools = F .pools;
+      }
+
+-- ---- one group gets a record
+module _ (k : Kernel) (F : Fit k) (n : ℕ) (x : Group) (small : n < 8) where
+  group-self : groupAt (withGroup k n x) n ≡ x
+  unfolding groupAt withGroup
+  group-self = getD-set-same (k .groups) n x noGroup (let e = F .groupsSized in omega (arith, e, small))
+
+  group-other : (m : ℕ) → (m ≡ n → ⊥) → groupAt (withGroup k n x) m ≡ groupAt k m
+  unfolding groupAt withGroup
+  group-other m o = getD-set-other (k .groups) n m x noGroup o
+
+  -- who waits on it may wait on the new record, and all others wait as before
+  group-waits : (th : Thread) (h : Held) → (waitsOnb 7 th ≡ true → th .object ≡ n → groupWaitb h x ≡ true) → waitOf k th h ≡ true → waitOf (withGroup k n x) th h ≡ true
+  unfolding waitOf withGroup queueAt semaphoreAt poolAt
+  group-waits th h here w =
+      let p = asked k th h w in
+      four (queueAsk k th h) (semaphoreAsk k th) (groupAsk (withGroup k n x) th h) (poolAsk k th)
+      (p .0)
+      (p .1)
+      (implies-in (waitsOnb 7 th) (groupWaitb h (groupAt (withGroup k n x) (th .object)))
+      (λ e. by-eq (th .object) n
+      (λ m. ap (λ (y : ℕ). groupWaitb h (groupAt (withGroup k n x) y)) m ∙ ap (λ (y : Group). groupWaitb h y) group-self ∙ here e m)
+      (λ m. ap (λ (y : Group). groupWaitb h y) (group-other (th .object) m) ∙ implies-out (waitsOnb 7 th) (groupWaitb h (groupAt k (th .object))) (p .2) e)))
+      (p .3)
+
+  pub fit-group : groupFitb x ≡ true → ((t : ℕ) → t < 32 → waitsOnb 7 (threadOf k t) ≡ true → threadOf k t .object ≡ n → groupWaitb (heldAt k t) x ≡ true) → Fit (withGroup k n x)
+  unfolding withGroup heldAt queueAt semaphoreAt poolAt
+  fit-group fit here =
+      record {
+        steady = F .steady;
+        heldSized = F .heldSized;
+        semaphoresSized = F .semaphoresSized;
+        queuesSized = F .queuesSized;
+        groupsSized = length-set (k .groups) n x ∙ F .groupsSized;
+        poolsSized = F .poolsSized;
+        held = F .held;
+        waits = λ t l. group-waits (threadOf k t) (heldAt k t) (here t l) (F .waits t l);
+        semaphores = F .semaphores;
+        queues = F .queues;
+        groups = λ m l. by-eq m n
+            (λ e. ap (λ (y : ℕ). groupFitb (groupAt (withGroup k n x) y)) e ∙ ap (λ (y : Group). groupFitb y) group-self ∙ fit)
+            (λ o. ap (λ (y : Group). groupFitb y) (group-other m o) ∙ F .groups m l);
         pools = F .pools;
       }
 

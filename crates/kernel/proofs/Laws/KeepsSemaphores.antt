@@ -31,24 +31,14 @@ use Rattle.waiting.specs.Fit.{waitsOnb, semaphoreWaitb}
 use Rattle.kernel.specs.Sound.{Sound}
 use Rattle.kernel.proofs.Laws.Answers.{first-none, second-none, unless-none}
 use Rattle.kernel.proofs.Laws.Keeps
+use Rattle.kernel.proofs.Laws.KeepsLines
 use Rattle.kernel.proofs.Laws.KeepsThreads.{runner-made}
 
--- who waits on semaphore n stands in its line
-waits-placed : (th : Thread) (n : ℕ) → waitsOnb 6 th ≡ true → th .object ≡ n → placedb (Calls.semaphorePlace n) th ≡ true
-unfolding waitsOnb placedb standsb readyb waitsb numberOf
-waits-placed th n w o =
-    let made = and-left (th .created) (eqb (th .state) 6) w in
-    let e = eqb-true (th .state) 6 (and-right (th .created) (eqb (th .state) 6) w) in
-    rw (made, e) (eq-eqb (th .object) n o)
-
 module _ (k : Kernel) (F : Keeps.Fit k) (n : ℕ) where
-  -- where nobody stands in line, and where the record lets nobody wait
-  free-line : ((t : ℕ) → placedb (Calls.semaphorePlace n) (threadOf k t) ≡ false) → Keeps.Free k n
-  free-line none t l w o = never (waits-placed (threadOf k t) n w o) (none t)
-
-  free-record : semaphoreWaitb (semaphoreAt k n) ≡ false → Keeps.Free k n
+  -- where the record lets nobody wait
+  free-record : {P : Type 0} → semaphoreWaitb (semaphoreAt k n) ≡ false → (t : ℕ) → t < 32 → waitsOnb 6 (threadOf k t) ≡ true → threadOf k t .object ≡ n → P
   free-record h t l w o =
-      never (ap (λ (x : ℕ). semaphoreWaitb (semaphoreAt k x)) (sym o) ∙ implies-out (waitsOnb 6 (threadOf k t)) (semaphoreWaitb (semaphoreAt k (threadOf k t .object))) (Keeps.asked-semaphore k (threadOf k t) (heldAt k t) (F .waits t l)) w) h
+      never (ap (λ (x : ℕ). semaphoreWaitb (semaphoreAt k x)) (sym o) ∙ implies-out (waitsOnb 6 (threadOf k t)) (semaphoreWaitb (semaphoreAt k (threadOf k t .object))) (Keeps.asked k (threadOf k t) (heldAt k t) (F .waits t l) .1) w) h
 
   -- a created semaphore is in the table
   semaphore-small : semaphoreAt k n .created ≡ true → n < 16
@@ -58,49 +48,15 @@ module _ (k : Kernel) (F : Keeps.Fit k) (n : ℕ) where
       (λ w. ltb-true n 16 w)
       (λ w. never made (ap (λ (x : Semaphore). x .created) (List·getD-eq-default (k .semaphores) noSemaphore (let o = ltb-false n 16 w in let e = F .semaphoresSized in omega (arith, o, e)))))
 
--- ---- lines of waiters
-placed-made : (n : ℕ) (th : Thread) → placedb (Calls.semaphorePlace n) th ≡ true → th .created ≡ true
-unfolding standsb readyb waitsb
-placed-made n th e =
-    let s = placed-stands (Calls.semaphorePlace n) th e in
-    by-test (readyb th)
-    (λ r. and-left (th .created) (eqb (th .state) 0) r)
-    (λ r. and-left (th .created) (ltb 4 (th .state)) (or-rest (readyb th) (waitsb th) s r))
-
-awake-unplaced : (n : ℕ) (th : Thread) → placedb (Calls.semaphorePlace n) (awake th) ≡ false
-unfolding placedb
-awake-unplaced n th =
-    let l = States.awake-state th in
-    by-test (placedb (Calls.semaphorePlace n) (awake th))
-    (λ e. absurd (let z = eqb-true (awake th .state) 6 (and-right (standsb (awake th)) (eqb (awake th .state) 6) (and-left (standsb (awake th) && eqb (awake th .state) 6) (eqb (numberOf (awake th)) n) e)) in omega (arith, l, z)))
-    (λ e. e)
-
-module _ (k : Kernel) (F : Keeps.Fit k) (n : ℕ) where
   abbrev line : List ℕ
   line = lineAt (k .scheduler) (Calls.semaphorePlace n)
-
-  line-made : (u : ℕ) → 0 < count u line → threadOf k u .created ≡ true
-  unfolding oneIf
-  line-made u c =
-      by-test (placedb (Calls.semaphorePlace n) (threadOf k u))
-      (placed-made n (threadOf k u))
-      (λ e. absurd (let z = Orders.line-count (k .scheduler) (F .steady) u (Calls.semaphorePlace n) ∙ ap oneIf e in omega (arith, c, z)))
-
-  line-others : (u : ℕ) → count u line ≡ 0 → placedb (Calls.semaphorePlace n) (threadOf k u) ≡ false
-  unfolding oneIf
-  line-others u c =
-      by-test (placedb (Calls.semaphorePlace n) (threadOf k u))
-      (λ e. absurd (let z = Orders.line-count (k .scheduler) (F .steady) u (Calls.semaphorePlace n) ∙ ap oneIf e in omega (arith, c, z)))
-      (λ e. e)
 
   -- the waits of all in line end, and the record is zero
   fit-deleted : n < 16 → Keeps.Fit (withSemaphore (endEach k Statuses.deleted noWords line) n noSemaphore)
   unfolding noSemaphore
   fit-deleted small =
-      let G = Keeps.fit-each Statuses.deleted noWords refl k F line line-made in
-      Keeps.fit-semaphore (endEach k Statuses.deleted noWords line) G n noSemaphore small refl
-      (free-line (endEach k Statuses.deleted noWords line) G n
-      (Keeps.each-holds Statuses.deleted noWords refl (λ th h. placedb (Calls.semaphorePlace n) th ≡ false) (λ th h. awake-unplaced n th) k F line line-made line-others))
+      Keeps.fit-semaphore (endEach k Statuses.deleted noWords line) (Keeps.fit-each Statuses.deleted noWords refl k F line (KeepsLines.line-made 6 n (omega arith) k F)) n noSemaphore small refl
+      (λ t l. KeepsLines.none-after 6 n (omega arith) k F Statuses.deleted noWords refl t)
 
 -- ---- the calls
 module _ (k : Kernel) (S : Sound k) where
@@ -112,7 +68,7 @@ module _ (k : Kernel) (S : Sound k) where
   is-made n rest e = unless-none (semaphoreAt k n .created) Statuses.semaphoreError (omega arith) (first-none _ rest e)
 
   -- a count on which nobody waits
-  fit-counting : (n count : ℕ) → n < 16 → Keeps.Free k n → Keeps.Fit (withSemaphore k n (Calls.counting count))
+  fit-counting : (n count : ℕ) → n < 16 → ({P : Type 0} → (t : ℕ) → t < 32 → waitsOnb 6 (threadOf k t) ≡ true → threadOf k t .object ≡ n → P) → Keeps.Fit (withSemaphore k n (Calls.counting count))
   unfolding Calls.counting
   fit-counting n c small free = Keeps.fit-semaphore k F n (Calls.counting c) small refl free
 
@@ -155,13 +111,8 @@ module _ (k : Kernel) (S : Sound k) where
       let some = unless-none (ltb 0 wait || ltb 0 (semaphoreAt k n .count)) Statuses.noInstance (omega arith) (second-none _ _ (second-none _ _ e)) in
       by-choice (λ (x : Outcome). Sound (x .kernel)) (ltb 0 (semaphoreAt k n .count)) _ _
       (λ q. Keeps.sound-carried _ (fit-taken n made q) _ _ _)
-      (λ q. let pos = ltb-true 0 wait (or-first (ltb 0 wait) (ltb 0 (semaphoreAt k n .count)) some q) in
-      let l = runs (or-rest (eqb wait 0) (eqb caller 2) may (ne-eqb wait 0 (λ z. omega (arith, pos, z)))) in
-      Keeps.sound-carried _ (fit-queued n wait made q l pos) _ _ _))
-    where
-      or-first : (a b : Bool) → (a || b) ≡ true → b ≡ false → a ≡ true
-      or-first true b w z = refl
-      or-first false b w z = never w z
+      (λ q. let w = KeepsLines.waiter-runs k caller wait runs may (ltb 0 (semaphoreAt k n .count)) some q in
+      Keeps.sound-carried _ (fit-queued n wait made q (w .1) (w .0)) _ _ _))
 
   -- the first waiter is served, or one is added
   put-on-sound : (n : ℕ) → semaphoreAt k n .created ≡ true → Sound (Calls.putOn k n .kernel)
@@ -169,10 +120,8 @@ module _ (k : Kernel) (S : Sound k) where
   put-on-sound n made =
       let first = firstAt (k .scheduler) (Calls.semaphorePlace n) in
       by-choice (λ (x : Outcome). Sound (x .kernel)) (ltb first 32) _ _
-      (λ q. let there = first-placed (k .scheduler) (Calls.semaphorePlace n) (ltb-true first 32 q) in
-      Keeps.sound-carried _ (Keeps.fit-end k F first (placed-made n (threadOf k first) there) Statuses.success noWords refl) _ _ _)
-      (λ q. let none = States.none-placed-there (k .scheduler) (F .steady) (Calls.semaphorePlace n) q in
-      Keeps.sound-carried _ (fit-counting n (oneMore (semaphoreAt k n .count)) (semaphore-small k F n made) (free-line k F n none)) _ _ _)
+      (λ q. Keeps.sound-carried _ (Keeps.fit-end k F first (KeepsLines.first-made 6 n (omega arith) k F q) Statuses.success noWords refl) _ _ _)
+      (λ q. Keeps.sound-carried _ (fit-counting n (oneMore (semaphoreAt k n .count)) (semaphore-small k F n made) (λ t l. KeepsLines.nobody-waits 6 n (omega arith) k F q t)) _ _ _)
 
   pub put-sound : (n : ℕ) → Sound (Calls.semaphorePut k n .kernel)
   unfolding Calls.semaphorePut semaphoreRefusal
@@ -183,7 +132,5 @@ module _ (k : Kernel) (S : Sound k) where
   ceiling-sound n ceiling = Keeps.sound-guarded k S _ _ (λ e. put-on-sound n (is-made n _ e))
 
   pub prioritize-sound : (n : ℕ) → Sound (Calls.semaphorePrioritize k n .kernel)
-  unfolding Calls.semaphorePrioritize prioritisedAt withOrder threadAt
-  prioritize-sound n =
-      Keeps.sound-call k S _ _ _ _ _
-      (λ e. Keeps.fit-scheduler k F (prioritisedAt (k .scheduler) (Calls.semaphorePlace n)) (Orders.prioritised-steady (k .scheduler) (F .steady) (Calls.semaphorePlace n)) (λ u. refl))
+  unfolding Calls.semaphorePrioritize
+  prioritize-sound n = Keeps.sound-call k S _ _ _ _ _ (λ e. KeepsLines.fit-prioritised 6 n (omega arith) k F)
