@@ -27,8 +27,9 @@ pub fn woken(line: Line, flags: u32, requests: [u32; 32], options: [u8; 32]) -> 
         let t = x as usize;
         i += 1;
         if t < 32 {
+            let own = cleared_by(requests[t], options[t]);
             if is_met(flags, requests[t], options[t]) {
-                clears = clears | cleared_by(requests[t], options[t]);
+                clears = clears | own;
                 let k = len as usize;
                 if k < 32 {
                     out[k] = x;

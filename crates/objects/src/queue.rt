@@ -150,9 +150,9 @@ impl Queue {
     {
         let store = self.store;
         let used = self.used();
-        let size = at_most(self.words, used);
+        let from = at_most(self.words, used);
         let none: [u32; 1] = [0; 1];
-        let left = packed(&store[size..used], &none[..0]);
+        let left = packed(&store[from..used], &none[..0]);
         self.storing(one_less(self.stored), left)
     }
 
@@ -211,7 +211,7 @@ impl Queue {
         if front {
             self
         } else {
-            self.without_oldest().with_last(message)
+            self.without_oldest().with_sent(false, message)
         }
     }
 
@@ -219,7 +219,8 @@ impl Queue {
     pub fn flushed(self) -> Queue
         ensures { λ r. ⌜ r ≡ flushed self ⌝ }
     {
-        self.storing(0, [0; 64])
+        let store: [u32; 64] = [0; 64];
+        self.storing(0, store)
     }
 }
 

@@ -47,18 +47,6 @@ cast-t c = search needs
 add-i : tie.Need-add-i Inv-loop μ-loop
 add-i c = search needs
 
-mul-is-met : tie.Need-mul-is-met Inv-loop μ-loop
-mul-is-met c = search needs
-
-array-read-is-met : tie.Need-array-read-is-met Inv-loop μ-loop
-array-read-is-met c = search needs
-
-array-read-is-met-2 : tie.Need-array-read-is-met-2 Inv-loop μ-loop
-array-read-is-met-2 c = search needs
-
-is-met-requires : tie.Need-is-met-requires Inv-loop μ-loop
-is-met-requires c κs = search needs
-
 mul-cleared-by : tie.Need-mul-cleared-by Inv-loop μ-loop
 mul-cleared-by c = search needs
 
@@ -70,6 +58,18 @@ array-read-cleared-by-2 c = search needs
 
 cleared-by-requires : tie.Need-cleared-by-requires Inv-loop μ-loop
 cleared-by-requires c κs = search needs
+
+mul-is-met : tie.Need-mul-is-met Inv-loop μ-loop
+mul-is-met c = search needs
+
+array-read-is-met : tie.Need-array-read-is-met Inv-loop μ-loop
+array-read-is-met c = search needs
+
+array-read-is-met-2 : tie.Need-array-read-is-met-2 Inv-loop μ-loop
+array-read-is-met-2 c = search needs
+
+is-met-requires : tie.Need-is-met-requires Inv-loop μ-loop
+is-met-requires c κs = search needs
 
 cast-k : tie.Need-cast-k Inv-loop μ-loop
 cast-k c = omega (arith, c .before .before .before .before .before .loop .inv .4)
@@ -91,9 +91,9 @@ loop-again c =
     let h : l .i < length (a .line .ids) = omega arith in
     let w = wokenOf (a .flags) (a .t3) (a .t4) (take (l .i) (a .line .ids)) in
     let o : Line = record { ids = l .out; len = l .len } in
-    let y : metAtb (a .flags) (a .t3) (a .t4) (getD (a .line .ids) (l .i) 0) ≡ true = sym (c .before .before .before .is-met .ensures) ∙ c .before .before .if2 .taken in
-    let k : bitOr (l .clears) (c .before .cleared-by .result) ≡ clearsOf (a .flags) (a .t3) (a .t4) (take (l .i + 1) (a .line .ids)) =
-    rw (c .before .cleared-by .ensures, l .inv .6) (sym (clears-more (a .flags) (a .t3) (a .t4) (a .line .ids) (l .i) h y)) in
+    let y : metAtb (a .flags) (a .t3) (a .t4) (getD (a .line .ids) (l .i) 0) ≡ true = sym (c .before .before .is-met .ensures) ∙ c .before .if2 .taken in
+    let k : bitOr (l .clears) (c .before .before .before .cleared-by .result) ≡ clearsOf (a .flags) (a .t3) (a .t4) (take (l .i + 1) (a .line .ids)) =
+    rw (c .before .before .before .cleared-by .ensures, l .inv .6) (sym (clears-more (a .flags) (a .t3) (a .t4) (a .line .ids) (l .i) h y)) in
     let g = woken-more (a .flags) (a .t3) (a .t4) (a .line .ids) (l .i) h y in
     let m = one-more o w (getD (a .line .ids) (l .i) 0) (l .inv .5) (c .if3 .taken) in
     (omega arith, omega arith, l .inv .2, simp length-set (l .inv .3), omega arith, m ∙ ap lineOf (sym g), k)
@@ -109,9 +109,9 @@ loop-again-2 c =
     let h : l .i < length (a .line .ids) = omega arith in
     let w = wokenOf (a .flags) (a .t3) (a .t4) (take (l .i) (a .line .ids)) in
     let o : Line = record { ids = l .out; len = l .len } in
-    let y : metAtb (a .flags) (a .t3) (a .t4) (getD (a .line .ids) (l .i) 0) ≡ true = sym (c .before .before .before .is-met .ensures) ∙ c .before .before .if2 .taken in
-    let k : bitOr (l .clears) (c .before .cleared-by .result) ≡ clearsOf (a .flags) (a .t3) (a .t4) (take (l .i + 1) (a .line .ids)) =
-    rw (c .before .cleared-by .ensures, l .inv .6) (sym (clears-more (a .flags) (a .t3) (a .t4) (a .line .ids) (l .i) h y)) in
+    let y : metAtb (a .flags) (a .t3) (a .t4) (getD (a .line .ids) (l .i) 0) ≡ true = sym (c .before .before .is-met .ensures) ∙ c .before .if2 .taken in
+    let k : bitOr (l .clears) (c .before .before .before .cleared-by .result) ≡ clearsOf (a .flags) (a .t3) (a .t4) (take (l .i + 1) (a .line .ids)) =
+    rw (c .before .before .before .cleared-by .ensures, l .inv .6) (sym (clears-more (a .flags) (a .t3) (a .t4) (a .line .ids) (l .i) h y)) in
     let g = woken-more (a .flags) (a .t3) (a .t4) (a .line .ids) (l .i) h y in
     let m = full o w (getD (a .line .ids) (l .i) 0) (l .inv .5) (c .if3 .left) in
     (omega arith, omega arith, l .inv .2, l .inv .3, l .inv .4, m ∙ ap lineOf (sym g), k)
@@ -122,8 +122,8 @@ loop-less-3 c = search needs
 loop-again-3 : tie.Need-loop-again-3 Inv-loop μ-loop
 unfolding metAtb
 loop-again-3 c =
-    let l = c .before .before .before .before .loop in
-    let a = c .before .before .before .before .before .before .before .args in
+    let l = c .before .before .before .before .before .loop in
+    let a = c .before .before .before .before .before .before .before .before .args in
     let h : l .i < length (a .line .ids) = omega arith in
     let y : metAtb (a .flags) (a .t3) (a .t4) (getD (a .line .ids) (l .i) 0) ≡ false = sym (c .before .is-met .ensures) ∙ c .if2 .left in (
       omega arith,
@@ -176,14 +176,14 @@ woken-spec =
     array-read-x
     cast-t
     add-i
-    mul-is-met
-    array-read-is-met
-    array-read-is-met-2
-    is-met-requires
     mul-cleared-by
     array-read-cleared-by
     array-read-cleared-by-2
     cleared-by-requires
+    mul-is-met
+    array-read-is-met
+    array-read-is-met-2
+    is-met-requires
     cast-k
     array-write-out
     add-len
