@@ -1,5 +1,6 @@
 pub mod Answers
 pub mod Waits
+pub mod Groups
 pub mod Sound
 pub mod Keeps
 pub mod KeepsLines

@@ -139,13 +139,7 @@ impl Kernel {
         ensures { λ r. ⌜ r ≡ answerOf (receiveFrom self (n .0) q wait) ⌝ }
     {
         if q.is_empty() {
-            return self.started_wait(
-                false,
-                ON_QUEUE,
-                n.0,
-                wait,
-                Held::of(WAITING, [0; 16]),
-            );
+            return self.started_wait(false, ON_QUEUE, n.0, wait, Held::of(WAITING, [0; 16]));
         }
         let s = self.scheduler;
         let f = s.first_at(place(n));

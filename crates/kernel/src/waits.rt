@@ -16,14 +16,7 @@ use lines::ThreadId;
 
 impl Kernel {
     // The running thread now waits or sleeps, and holds `h` meanwhile.
-    pub fn started_wait(
-        mut self,
-        front: bool,
-        state: u8,
-        object: u8,
-        ticks: u32,
-        h: Held,
-    ) -> Answer
+    pub fn started_wait(mut self, front: bool, state: u8, object: u8, ticks: u32, h: Held) -> Answer
         ensures { λ r. ⌜ r ≡ answerOf (carried (startWait self front state object ticks h) waiting noWords []) ⌝ }
     {
         let s = self.scheduler;

@@ -391,8 +391,7 @@ module _ (k : Kernel) (th : Thread) (h : Held) where
   unfolding waitOf
   asked w =
       let c = and-left (queueAsk k th h && semaphoreAsk k th && groupAsk k th h) (poolAsk k th) w in
-      let b = and-left (queueAsk k th h && semaphoreAsk k th) (groupAsk k th h) c in
-      (
+      let b = and-left (queueAsk k th h && semaphoreAsk k th) (groupAsk k th h) c in (
         and-left (queueAsk k th h) (semaphoreAsk k th) b,
         and-right (queueAsk k th h) (semaphoreAsk k th) b,
         and-right (queueAsk k th h && semaphoreAsk k th) (groupAsk k th h) c,

@@ -19,7 +19,7 @@ use Rattle.objects.specs.declared.queue.Queue.{Queue}
 use Rattle.objects.specs.Queues.{noQueue, emptyb, fullb, roomb, sizesFitb, emptyQueue, withoutOldest, withSent, leftPast, flushed, queueFitb}
 use Rattle.objects.proofs.Laws.Queues as Records
 use Rattle.calls.specs.declared.held.Held.{Held}
-use Rattle.calls.specs.Held.{noWords, waiting, sending}
+use Rattle.calls.specs.Held.{noWords, holding, waiting, sending}
 use Rattle.calls.specs.Messages.{messageIn}
 use Rattle.calls.specs.Statuses as Statuses
 use Rattle.calls.specs.Refusals.{unless, firstOf, queueCreateRefusal, queueDeleteRefusal, sendRefusal, receiveRefusal, queueRefusal}
@@ -120,8 +120,8 @@ module _ (k : Kernel) (F : Keeps.Fit k) (n : ℕ) where
       let b = wait-sender (heldAt k t) q v s in
       let full = and-left (fullb q) (blankFrom (q .words) (heldAt k t .message)) b in
       ap (λ (y : Held). queueWaitb y x) h
-      ∙ sender-waits (heldAt k t) x (a .created ∙ there) s (Records.past-full q fit there front message some full)
-      (ap (λ (m : ℕ). blankFrom m (heldAt k t .message)) (a .words) ∙ and-right (fullb q) (blankFrom (q .words) (heldAt k t .message)) b)))
+      ∙ sender-waits (heldAt k t) x (a .0 ∙ there) s (Records.past-full q fit there front message some full)
+      (ap (λ (m : ℕ). blankFrom m (heldAt k t .message)) (a .1) ∙ and-right (fullb q) (blankFrom (q .words) (heldAt k t .message)) b)))
 
 -- ---- the calls
 module _ (k : Kernel) (S : Sound k) where
@@ -171,7 +171,7 @@ module _ (k : Kernel) (S : Sound k) where
 
   -- the receiver waits
   fit-receiver : (n wait : ℕ) → queueAt k n .created ≡ true → emptyb (queueAt k n) ≡ true → runnerOf k < 32 → 0 < wait → Keeps.Fit (startWait k false 5 n wait waiting)
-  unfolding inState
+  unfolding inState holding
   fit-receiver n wait made none l pos =
       Keeps.fit-start k F l (runner-made k S l) false 5 n wait waiting (omega arith) (omega arith) (λ z. absurd (omega (arith, z))) pos
       Keeps.held-receiving

@@ -68,7 +68,7 @@ module _ (k : Kernel) (S : Sound k) where
   is-made n rest e = unless-none (semaphoreAt k n .created) Statuses.semaphoreError (omega arith) (first-none _ rest e)
 
   -- a count on which nobody waits
-  fit-counting : (n count : ℕ) → n < 16 → ({P : Type 0} → (t : ℕ) → t < 32 → waitsOnb 6 (threadOf k t) ≡ true → threadOf k t .object ≡ n → P) → Keeps.Fit (withSemaphore k n (Calls.counting count))
+  fit-counting : (n count : ℕ) → n < 16 → ((t : ℕ) → t < 32 → waitsOnb 6 (threadOf k t) ≡ true → threadOf k t .object ≡ n → semaphoreWaitb (Calls.counting count) ≡ true) → Keeps.Fit (withSemaphore k n (Calls.counting count))
   unfolding Calls.counting
   fit-counting n c small free = Keeps.fit-semaphore k F n (Calls.counting c) small refl free
 

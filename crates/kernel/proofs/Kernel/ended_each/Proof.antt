@@ -21,10 +21,6 @@ use lib.ListN.{length-set}
 use Rattle.scheduler.specs.Choice.{rescheduled}
 use Rattle.kernel.proofs.Kernel.ended_each.Statement.{statement}
 use Rattle.kernel.proofs.Kernel.ended_each.Tie as tie
-use Rattle.kernel.proofs.Kernel.ended_each.Reads as reads
-use Rattle.kernel.proofs.Kernel.ended_each.Lts as lts
-use Rattle.kernel.proofs.Kernel.carried.Reads as carried-reads
-
 
 abbrev Inv-loop : tie.InvT-loop
 Inv-loop status self₀ ids n h s₀ i₀ self s i = (i ≤ n) × (n ≤ 32) × (length ids ≡ 32) × (length (self .held) ≡ 32) × (withScheduler self s ≡ endEach (withScheduler self₀ s₀) status (h .words) (take i ids))
@@ -43,7 +39,7 @@ of-requires c κs = search needs
 
 loop-holds : tie.Need-loop-holds Inv-loop μ-loop
 unfolding endEach withScheduler
-loop-holds c = 
+loop-holds c =
     let a = c .before .before .before .before .args in
     let z = c .before .before .size .ensures in
     let o : length (a .line .ids) ≡ 32 = search needs in
@@ -73,7 +69,7 @@ loop-less c = search needs
 
 loop-again : tie.Need-loop-again Inv-loop μ-loop
 unfolding withScheduler withHeld endWait holding
-loop-again c = 
+loop-again c =
     let a = c .before .before .before .before .before .before .before .before .args in
     let l = c .before .before .before .loop in
     let x = getD (a .line .ids) (l .i) 0 in
@@ -87,7 +83,7 @@ loop-less-2 c = search needs
 
 loop-again-2 : tie.Need-loop-again-2 Inv-loop μ-loop
 unfolding withScheduler withHeld endWait
-loop-again-2 c = 
+loop-again-2 c =
     let a = c .before .before .before .before .before .before .before .before .args in
     let l = c .before .before .before .loop in
     let x = getD (a .line .ids) (l .i) 0 in
@@ -103,7 +99,7 @@ carried-requires c κs = search needs
 
 returns : tie.Need-returns Inv-loop μ-loop
 unfolding answerOf carried answered withScheduler holding
-returns c = 
+returns c =
     let a = c .before .before .before .before .before .before .before .args in
     let l = c .before .before .loop in
     let n : l .i ≡ length (members (a .line)) = omega (arith, c .before .before .before .before .before .size .ensures) in

@@ -1,46 +1,51 @@
+use mathlib.Core.Path.{_≡_, sym, ap, _∙_}
+use Prim.Native.Nat.{_-_}
 use borrow.Author.Needs.{needs}
+use mathlib.Core.Path.{_≡_, sym, ap, _∙_}
+use Rattle.objects.specs.declared.group.Group.{Group}
+use Rattle.calls.specs.Refusals.{groupCreateRefusal}
+use Rattle.kernel.specs.Tables.{groupAt, withScheduler, withGroup}
+use Rattle.kernel.specs.Answers.{answerOf, refused, carried, answered}
+use Rattle.kernel.specs.Groups.{groupCreate}
+use Rattle.kernel.proofs.Laws.Answers.{is-carried}
+use Rattle.kernel.proofs.Laws.Answers.{refused-for}
 use Rattle.kernel.proofs.Kernel.event_flags_create.Statement.{statement}
 use Rattle.kernel.proofs.Kernel.event_flags_create.Tie as tie
-use Rattle.kernel.proofs.Kernel.event_flags_create.Reads as reads
-use Rattle.kernel.proofs.Kernel.event_flags_create.Lts as lts
-use Rattle.calls.proofs.refusal.group_create.Reads as group-create-reads
-use Rattle.kernel.proofs.Kernel.carried.Reads as carried-reads
-use Rattle.kernel.proofs.Kernel.refused.Reads as refused-reads
-use Rattle.kernel.proofs.groups.group_in.Reads as group-in-reads
-use Rattle.kernel.proofs.groups.groups_with.Reads as groups-with-reads
-use Rattle.objects.proofs.group.Group.of.Reads as of-reads
 
--- src/groups.rt:58:47
 group-in-requires : tie.Need-group-in-requires
 group-in-requires c κs = search needs
 
--- src/groups.rt:58:13
 group-create-requires : tie.Need-group-create-requires
 group-create-requires c κs = search needs
 
--- src/groups.rt:60:13
 refused-requires : tie.Need-refused-requires
 refused-requires c κs = search needs
 
--- src/groups.rt:60:13
 returns : tie.Need-returns
-returns c = ?
+unfolding groupCreate groupAt
+returns c =
+    let a = c .before .before .before .before .before .args in
+    let i : c .before .before .before .group-in .result ≡ groupAt (a .self) (a .n .0) = c .before .before .before .group-in .ensures in
+    let e = c .before .before .group-create .ensures ∙ ap (λ (g : Group). groupCreateRefusal (a .n .0) g (a .caller)) i in
+    c .refused .ensures ∙ ap answerOf (refused-for (a .self) (groupCreateRefusal (a .n .0) (groupAt (a .self) (a .n .0)) (a .caller)) (c .before .before .group-create .result) _ (sym e) (c .before .if1 .taken))
 
--- src/groups.rt:63:43
 of-requires : tie.Need-of-requires
 of-requires c κs = search needs
 
--- src/groups.rt:63:13
 groups-with-requires : tie.Need-groups-with-requires
 groups-with-requires c κs = search needs
 
--- src/groups.rt:65:9
 carried-requires : tie.Need-carried-requires
 carried-requires c κs = search needs
 
--- src/groups.rt:54:5
 returns-2 : tie.Need-returns-2
-returns-2 c = ?
+unfolding groupCreate groupAt answerOf carried answered withScheduler withGroup
+returns-2 c =
+    let a = c .before .before .before .before .before .before .before .before .args in
+    let i : c .before .before .before .before .before .before .group-in .result ≡ groupAt (a .self) (a .n .0) = c .before .before .before .before .before .before .group-in .ensures in
+    let e = c .before .before .before .before .before .group-create .ensures ∙ ap (λ (g : Group). groupCreateRefusal (a .n .0) g (a .caller)) i in
+    let z : groupCreateRefusal (a .n .0) (groupAt (a .self) (a .n .0)) (a .caller) ≡ 0 = sym e ∙ c .before .before .before .before .if1 .left in
+    rw is-carried (c .carried .ensures ∙ rw (c .before .groups-with .ensures, c .before .before .of .ensures))
 
 pub event-flags-create-spec : {M : Type 1} → statement M
 event-flags-create-spec =

@@ -1,56 +1,65 @@
+use mathlib.Core.Path.{_≡_, sym, ap, _∙_}
+use Prim.Native.Nat.{_-_}
 use borrow.Author.Needs.{needs}
+use mathlib.Core.Path.{_≡_, sym, ap, _∙_}
+use Rattle.lines.specs.Lines.{members}
+use Rattle.scheduler.specs.Orders.{lineAt}
+use Rattle.objects.specs.declared.group.Group.{Group}
+use Rattle.objects.specs.Groups.{noGroup}
+use Rattle.calls.specs.Held.{noWords}
+use Rattle.calls.specs.Refusals.{groupDeleteRefusal}
+use Rattle.kernel.specs.declared.Kernel.{Kernel}
+use Rattle.kernel.specs.Tables.{groupAt, withGroup}
+use Rattle.kernel.specs.Answers.{answerOf, refused, carried}
+use Rattle.kernel.specs.Groups.{groupPlace, groupDelete}
+use Rattle.kernel.proofs.Laws.Waits.{each-group}
+use Rattle.kernel.proofs.Laws.Answers.{is-carried}
+use Rattle.kernel.proofs.Laws.Answers.{refused-for}
 use Rattle.kernel.proofs.Kernel.event_flags_delete.Statement.{statement}
 use Rattle.kernel.proofs.Kernel.event_flags_delete.Tie as tie
-use Rattle.kernel.proofs.Kernel.event_flags_delete.Reads as reads
-use Rattle.kernel.proofs.Kernel.event_flags_delete.Lts as lts
-use Rattle.calls.proofs.refusal.group_delete.Reads as group-delete-reads
-use Rattle.kernel.proofs.Kernel.ended_each.Reads as ended-each-reads
-use Rattle.kernel.proofs.Kernel.refused.Reads as refused-reads
-use Rattle.kernel.proofs.groups.group_in.Reads as group-in-reads
-use Rattle.kernel.proofs.groups.groups_with.Reads as groups-with-reads
-use Rattle.kernel.proofs.groups.place.Reads as place-reads
-use Rattle.objects.proofs.group.Group.none.Reads as none-reads
-use Rattle.scheduler.proofs.Scheduler.line_at.Reads as line-at-reads
 
--- src/groups.rt:72:44
 group-in-requires : tie.Need-group-in-requires
 group-in-requires c κs = search needs
 
--- src/groups.rt:72:13
 group-delete-requires : tie.Need-group-delete-requires
 group-delete-requires c κs = search needs
 
--- src/groups.rt:74:13
 refused-requires : tie.Need-refused-requires
 refused-requires c κs = search needs
 
--- src/groups.rt:74:13
 returns : tie.Need-returns
-returns c = ?
+unfolding groupDelete groupAt
+returns c =
+    let a = c .before .before .before .before .before .args in
+    let i : c .before .before .before .group-in .result ≡ groupAt (a .self) (a .n .0) = c .before .before .before .group-in .ensures in
+    let e = c .before .before .group-delete .ensures ∙ ap (λ (g : Group). groupDeleteRefusal g (a .caller)) i in
+    c .refused .ensures ∙ ap answerOf (refused-for (a .self) (groupDeleteRefusal (groupAt (a .self) (a .n .0)) (a .caller)) (c .before .before .group-delete .result) _ (sym e) (c .before .if1 .taken))
 
--- src/groups.rt:77:30
 place-requires : tie.Need-place-requires
 place-requires c κs = search needs
 
--- src/groups.rt:77:13
 line-at-requires : tie.Need-line-at-requires
 line-at-requires c κs = search needs
 
--- src/groups.rt:78:43
 none-requires : tie.Need-none-requires
 none-requires c κs = search needs
 
--- src/groups.rt:78:13
 groups-with-requires : tie.Need-groups-with-requires
 groups-with-requires c κs = search needs
 
--- src/groups.rt:80:9
 ended-each-requires : tie.Need-ended-each-requires
 ended-each-requires c κs = search needs
 
--- src/groups.rt:68:5
 returns-2 : tie.Need-returns-2
-returns-2 c = ?
+unfolding groupDelete groupAt withGroup
+returns-2 c =
+    let a = c .before .before .before .before .before .before .before .before .before .before .args in
+    let i : c .before .before .before .before .before .before .before .before .group-in .result ≡ groupAt (a .self) (a .n .0) = c .before .before .before .before .before .before .before .before .group-in .ensures in
+    let e = c .before .before .before .before .before .before .before .group-delete .ensures ∙ ap (λ (g : Group). groupDeleteRefusal g (a .caller)) i in
+    let z : groupDeleteRefusal (groupAt (a .self) (a .n .0)) (a .caller) ≡ 0 = sym e ∙ c .before .before .before .before .before .before .if1 .left in
+    let line = lineAt (a .self .scheduler) (groupPlace (a .n .0)) in
+    let m : members (c .before .before .before .line-at .result) ≡ line = c .before .before .before .line-at .ensures .1 ∙ ap (lineAt (a .self .scheduler)) (c .before .before .before .before .place .ensures) in
+    rw is-carried (c .ended-each .ensures ∙ rw (m, c .before .groups-with .ensures, c .before .before .none .ensures) (ap (λ (k : Kernel). answerOf (carried k 0 noWords line)) (each-group (a .self) (a .n .0) noGroup 1 noWords line)))
 
 pub event-flags-delete-spec : {M : Type 1} → statement M
 event-flags-delete-spec =

@@ -1,56 +1,72 @@
+use mathlib.Core.Path.{_≡_, sym, ap, _∙_}
+use Prim.Native.Nat.{_-_}
+use native.Mathlib.Omega.{arith}
 use borrow.Author.Needs.{needs}
+use lib.ListN.{length}
+use mathlib.Core.Path.{_≡_, sym, ap, _∙_}
+use Rattle.scheduler.proofs.Laws.Threads.{length-mapped}
+use Rattle.objects.specs.declared.queue.Queue.{Queue}
+use Rattle.objects.specs.Queues.{noQueue}
+use Rattle.calls.specs.Refusals.{queueDeleteRefusal}
+use Rattle.kernel.specs.Tables.{queueAt}
+use Rattle.kernel.specs.Answers.{answerOf, refused}
+use Rattle.kernel.specs.Queues.{queueDelete}
+use Rattle.kernel.proofs.Laws.Answers.{is-carried}
+use Rattle.kernel.proofs.Laws.Answers.{refused-for, queue-none, queue-in}
+use Rattle.calls.specs.Refusals.{unless, firstOf}
 use Rattle.kernel.proofs.Kernel.queue_delete.Statement.{statement}
 use Rattle.kernel.proofs.Kernel.queue_delete.Tie as tie
-use Rattle.kernel.proofs.Kernel.queue_delete.Reads as reads
-use Rattle.kernel.proofs.Kernel.queue_delete.Lts as lts
-use Rattle.calls.proofs.refusal.queue_delete.Reads as queue-delete-reads
-use Rattle.kernel.proofs.Kernel.queue_ended.Reads as queue-ended-reads
-use Rattle.kernel.proofs.Kernel.refused.Reads as refused-reads
-use Rattle.objects.proofs.queue.Queue.none.Reads as none-reads
 
--- src/queues.rt:84:17
 cast-i : tie.Need-cast-i
 cast-i c = search needs
 
--- src/queues.rt:86:13
 refused-requires : tie.Need-refused-requires
 refused-requires c κs = search needs
 
--- src/queues.rt:86:13
 returns : tie.Need-returns
-returns c = ?
+unfolding queueDelete queueDeleteRefusal firstOf unless noQueue
+returns c =
+    let a = c .before .before .before .args in
+    let l : length (a .t1 .queues) ≡ 8 = length-mapped _ (a .t1 .queues) 8 (c .before .before .before .good .0 .1 .1 .1 .1 .1 .0 .1 .0 .1) in
+    let e : queueDeleteRefusal (queueAt (a .t1) (a .n .0)) (a .caller) ≡ 9 = ap (λ (q : Queue). queueDeleteRefusal q (a .caller)) (queue-none (a .t1) (a .n .0) l (c .before .if1 .taken)) in
+    c .refused .ensures ∙ ap answerOf (refused-for (a .t1) (queueDeleteRefusal (queueAt (a .t1) (a .n .0)) (a .caller)) 9 _ (e) (λ z. omega (arith, z)))
 
--- src/queues.rt:88:44
 mul-queue-delete : tie.Need-mul-queue-delete
 mul-queue-delete c = search needs
 
--- src/queues.rt:88:44
 element-copy-out-queue-delete : tie.Need-element-copy-out-queue-delete
 element-copy-out-queue-delete c = search needs
 
--- src/queues.rt:88:13
 queue-delete-requires : tie.Need-queue-delete-requires
 queue-delete-requires c κs = search needs
 
--- src/queues.rt:90:13
 refused-requires-2 : tie.Need-refused-requires-2
 refused-requires-2 c κs = search needs
 
--- src/queues.rt:90:13
 returns-2 : tie.Need-returns-2
-returns-2 c = ?
+unfolding queueDelete
+returns-2 c =
+    let a = c .before .before .before .before .before .before .args in
+    let l : length (a .t1 .queues) ≡ 8 = length-mapped _ (a .t1 .queues) 8 (c .before .before .before .before .before .before .good .0 .1 .1 .1 .1 .1 .0 .1 .0 .1) in
+    let i = queue-in (a .t1) (a .n .0) _ l (c .before .before .before .before .if1 .left) in
+    let e = c .before .before .queue-delete .ensures ∙ ap (λ (q : Queue). queueDeleteRefusal q (a .caller)) i in
+    c .refused2 .ensures ∙ ap answerOf (refused-for (a .t1) (queueDeleteRefusal (queueAt (a .t1) (a .n .0)) (a .caller)) (c .before .before .queue-delete .result) _ (sym e) (c .before .if2 .taken))
 
--- src/queues.rt:92:29
 none-requires : tie.Need-none-requires
 none-requires c κs = search needs
 
--- src/queues.rt:92:9
 queue-ended-requires : tie.Need-queue-ended-requires
 queue-ended-requires c κs = search needs
 
--- src/queues.rt:81:5
 returns-3 : tie.Need-returns-3
-returns-3 c = ?
+unfolding queueDelete
+returns-3 c =
+    let a = c .before .before .before .before .before .before .before .args in
+    let l : length (a .t1 .queues) ≡ 8 = length-mapped _ (a .t1 .queues) 8 (c .before .before .before .before .before .before .before .good .0 .1 .1 .1 .1 .1 .0 .1 .0 .1) in
+    let i = queue-in (a .t1) (a .n .0) _ l (c .before .before .before .before .before .if1 .left) in
+    let e = c .before .before .before .queue-delete .ensures ∙ ap (λ (q : Queue). queueDeleteRefusal q (a .caller)) i in
+    let z : queueDeleteRefusal (queueAt (a .t1) (a .n .0)) (a .caller) ≡ 0 = sym e ∙ c .before .before .if2 .left in
+    rw is-carried (c .queue-ended .ensures ∙ rw (c .before .none .ensures))
 
 pub queue-delete-spec : {M : Type 1} → statement M
 queue-delete-spec =

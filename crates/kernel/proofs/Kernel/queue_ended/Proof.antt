@@ -1,39 +1,51 @@
+use mathlib.Core.Path.{_≡_, sym, ap, _∙_}
+use mathlib.Core.Logic.{⊎-elim}
+use Prim.Native.Nat.{_-_}
 use borrow.Author.Needs.{needs}
+use lib.ListN.{length}
+use mathlib.Core.Path.{_≡_, sym, ap, _∙_}
+use Rattle.lines.specs.Lines.{members}
+use Rattle.scheduler.specs.Orders.{lineAt}
+use Rattle.scheduler.proofs.Laws.Threads.{length-mapped}
+use Rattle.calls.specs.Held.{noWords}
+use Rattle.kernel.specs.declared.Kernel.{Kernel}
+use Rattle.kernel.specs.Tables.{withQueue}
+use Rattle.kernel.specs.Answers.{answerOf, carried}
+use Rattle.kernel.specs.Waits.{endEach}
+use Rattle.kernel.specs.Queues.{queuePlace, endQueue}
+use Rattle.kernel.proofs.Laws.Waits.{each-queue}
+use Rattle.kernel.proofs.Laws.Answers.{queue-out}
+use mathlib.Core.Logic.{⊎-elim}
 use Rattle.kernel.proofs.Kernel.queue_ended.Statement.{statement}
 use Rattle.kernel.proofs.Kernel.queue_ended.Tie as tie
-use Rattle.kernel.proofs.Kernel.queue_ended.Reads as reads
-use Rattle.kernel.proofs.Kernel.queue_ended.Lts as lts
-use Rattle.kernel.proofs.Kernel.ended_each.Reads as ended-each-reads
-use Rattle.kernel.proofs.queues.place.Reads as place-reads
-use Rattle.scheduler.proofs.Scheduler.line_at.Reads as line-at-reads
 
--- src/queues.rt:58:30
 place-requires : tie.Need-place-requires
 place-requires c κs = search needs
 
--- src/queues.rt:58:13
 line-at-requires : tie.Need-line-at-requires
 line-at-requires c κs = search needs
 
--- src/queues.rt:59:17
 cast-i : tie.Need-cast-i
 cast-i c = search needs
 
--- src/queues.rt:61:13
 mul-q : tie.Need-mul-q
 mul-q c = search needs
 
--- src/queues.rt:61:13
 element-set-from-q : tie.Need-element-set-from-q
 element-set-from-q c = search needs
 
--- src/queues.rt:63:9
 ended-each-requires : tie.Need-ended-each-requires
 ended-each-requires c κs = search needs
 
--- src/queues.rt:54:5
 returns : tie.Need-returns
-returns c = ?
+unfolding endQueue withQueue
+returns c =
+    let a = c .before .before .before .before .before .before .args in
+    let l : length (a .t1 .queues) ≡ 8 = length-mapped _ (a .t1 .queues) 8 (c .before .before .before .before .before .before .good .0 .1 .1 .1 .1 .1 .0 .1 .0 .1) in
+    let m : c .before .if1 .self ≡ withQueue (a .t1) (a .n .0) (a .q) = ⊎-elim (λ w. w .1) (λ w. w .1 ∙ sym (queue-out (a .t1) (a .n .0) l (w .0 .left) (a .q))) (c .before .if1 .came) in
+    let line = lineAt (a .t1 .scheduler) (queuePlace (a .n .0)) in
+    let p : members (c .before .before .before .line-at .result) ≡ line = c .before .before .before .line-at .ensures .1 ∙ ap (lineAt (a .t1 .scheduler)) (c .before .before .before .before .place .ensures) in
+    c .ended-each .ensures ∙ (λ j. answerOf (carried (endEach (m j) (a .status) noWords (p j)) 0 noWords (p j))) ∙ ap (λ (k : Kernel). answerOf (carried k 0 noWords line)) (each-queue (a .t1) (a .n .0) (a .q) (a .status) noWords line)
 
 pub queue-ended-spec : {M : Type 1} → statement M
 queue-ended-spec =

@@ -1,103 +1,104 @@
+use mathlib.Core.Path.{_≡_, sym, ap, _∙_}
+use mathlib.Core.Bool.{true, false}
+use Prim.Native.Nat.{_-_}
+use native.Mathlib.Omega.{arith}
 use borrow.Author.Needs.{needs}
+use borrow.Author.Tests.{lt-ltb, le-ltb}
+use lib.ListN.{length}
+use mathlib.Core.Path.{_≡_, sym, ap, _∙_}
+use Rattle.scheduler.specs.Orders.{firstAt, woken}
+use Rattle.scheduler.proofs.Laws.Threads.{length-mapped}
+use Rattle.objects.specs.Queues.{emptyb, oldest, givenPast, leftPast}
+use Rattle.calls.specs.declared.held.Held.{Held}
+use Rattle.calls.specs.Held.{noHeld}
+use Rattle.kernel.specs.Tables.{heldAt, withScheduler, withHeld, withQueue}
+use Rattle.kernel.specs.Answers.{answerOf, carried, answered}
+use Rattle.kernel.specs.Waits.{endWait}
+use Rattle.kernel.specs.Queues.{queuePlace, receivePast, receiveFrom}
+use Rattle.lines.proofs.Laws.Lists.{getD-any}
 use Rattle.kernel.proofs.Kernel.received.Statement.{statement}
 use Rattle.kernel.proofs.Kernel.received.Tie as tie
-use Rattle.kernel.proofs.Kernel.received.Reads as reads
-use Rattle.kernel.proofs.Kernel.received.Lts as lts
-use Rattle.calls.proofs.held.Held.of.Reads as of-reads
-use Rattle.kernel.proofs.Kernel.queue_carried.Reads as queue-carried-reads
-use Rattle.kernel.proofs.Kernel.started_wait.Reads as started-wait-reads
-use Rattle.kernel.proofs.queues.place.Reads as place-reads
-use Rattle.objects.proofs.queue.Queue.given_past.Reads as given-past-reads
-use Rattle.objects.proofs.queue.Queue.is_empty.Reads as is-empty-reads
-use Rattle.objects.proofs.queue.Queue.left_past.Reads as left-past-reads
-use Rattle.objects.proofs.queue.Queue.oldest.Reads as oldest-reads
-use Rattle.objects.proofs.queue.Queue.without_oldest.Reads as without-oldest-reads
-use Rattle.scheduler.proofs.Scheduler.first_at.Reads as first-at-reads
-use Rattle.scheduler.proofs.Scheduler.woken.Reads as woken-reads
 
--- src/queues.rt:141:12
 is-empty-requires : tie.Need-is-empty-requires
 is-empty-requires c κs = search needs
 
--- src/queues.rt:147:17
 of-requires : tie.Need-of-requires
 of-requires c κs = search needs
 
--- src/queues.rt:142:13
 started-wait-requires : tie.Need-started-wait-requires
 started-wait-requires c κs = search needs
 
--- src/queues.rt:142:13
 returns : tie.Need-returns
-returns c = ?
+unfolding receiveFrom
+returns c =
+    let a = c .before .before .before .before .args in
+    let r : emptyb (a .q) ≡ true = sym (c .before .before .before .is-empty .ensures) ∙ c .before .before .if1 .taken in
+    rw r (c .started-wait .ensures ∙ rw (c .before .of .ensures))
 
--- src/queues.rt:151:28
 place-requires : tie.Need-place-requires
 place-requires c κs = search needs
 
--- src/queues.rt:151:13
 first-at-requires : tie.Need-first-at-requires
 first-at-requires c κs = search needs
 
--- src/queues.rt:152:17
 cast-i : tie.Need-cast-i
 cast-i c = search needs
 
--- src/queues.rt:154:26
 mul-sender : tie.Need-mul-sender
 mul-sender c = search needs
 
--- src/queues.rt:154:26
 element-copy-out-sender : tie.Need-element-copy-out-sender
 element-copy-out-sender c = search needs
 
--- src/queues.rt:156:17
 given-past-requires : tie.Need-given-past-requires
 given-past-requires c κs = search needs
 
--- src/queues.rt:157:17
 left-past-requires : tie.Need-left-past-requires
 left-past-requires c κs = search needs
 
--- src/queues.rt:158:17
 of-requires-2 : tie.Need-of-requires-2
 of-requires-2 c κs = search needs
 
--- src/queues.rt:159:13
 mul-h : tie.Need-mul-h
 mul-h c = search needs
 
--- src/queues.rt:159:13
 element-set-from-h : tie.Need-element-set-from-h
 element-set-from-h c = search needs
 
--- src/queues.rt:160:48
 woken-requires : tie.Need-woken-requires
 woken-requires c κs = search needs
 
--- src/queues.rt:160:13
 queue-carried-requires : tie.Need-queue-carried-requires
 queue-carried-requires c κs = search needs
 
--- src/queues.rt:160:13
 returns-2 : tie.Need-returns-2
-returns-2 c = ?
+unfolding receiveFrom receivePast endWait heldAt answerOf carried answered withHeld withScheduler withQueue
+returns-2 c =
+    let a = c .before .before .before .before .before .before .before .before .before .before .before .before .before .before .args in
+    let r : emptyb (a .q) ≡ false = sym (c .before .before .before .before .before .before .before .before .before .before .before .before .before .is-empty .ensures) ∙ c .before .before .before .before .before .before .before .before .before .before .before .before .if1 .left in
+    let f : c .before .before .before .before .before .before .before .before .before .first-at .result .0 ≡ firstAt (a .t1 .scheduler) (queuePlace (a .n .0)) = c .before .before .before .before .before .before .before .before .before .first-at .ensures ∙ ap (firstAt (a .t1 .scheduler)) (c .before .before .before .before .before .before .before .before .before .before .place .ensures) in
+    let s : length (a .t1 .held) ≡ 32 = length-mapped _ (a .t1 .held) 32 (c .before .before .before .before .before .before .before .before .before .before .before .before .before .before .good .0 .1 .1 .1 .0 .1 .0 .1) in
+    let h = getD-any (a .t1 .held) (c .before .before .before .before .before .before .before .before .before .first-at .result .0) _ noHeld (let t = c .before .before .before .before .before .before .before .if2 .taken in omega (arith, s, t)) in
+    let g = c .before .before .before .before .given-past .ensures ∙ ap (λ (y : Held). givenPast (a .q) (y .front) (y .message)) h in
+    let p = c .before .before .before .left-past .ensures ∙ ap (λ (y : Held). leftPast (a .q) (y .front) (y .message)) h in
+    rw (r, ← f, lt-ltb (c .before .before .before .before .before .before .before .before .before .first-at .result .0) 32 (c .before .before .before .before .before .before .before .if2 .taken)) (c .queue-carried .ensures ∙ rw (c .before .woken .ensures, c .before .before .of2 .ensures, g, p))
 
--- src/queues.rt:162:31
 without-oldest-requires : tie.Need-without-oldest-requires
 without-oldest-requires c κs = search needs
 
--- src/queues.rt:162:54
 oldest-requires : tie.Need-oldest-requires
 oldest-requires c κs = search needs
 
--- src/queues.rt:162:9
 queue-carried-requires-2 : tie.Need-queue-carried-requires-2
 queue-carried-requires-2 c κs = search needs
 
--- src/queues.rt:138:5
 returns-3 : tie.Need-returns-3
-returns-3 c = ?
+unfolding receiveFrom answerOf carried answered withScheduler withQueue
+returns-3 c =
+    let a = c .before .before .before .before .before .before .before .before .before .before .args in
+    let r : emptyb (a .q) ≡ false = sym (c .before .before .before .before .before .before .before .before .before .is-empty .ensures) ∙ c .before .before .before .before .before .before .before .before .if1 .left in
+    let f : c .before .before .before .before .before .first-at .result .0 ≡ firstAt (a .t1 .scheduler) (queuePlace (a .n .0)) = c .before .before .before .before .before .first-at .ensures ∙ ap (firstAt (a .t1 .scheduler)) (c .before .before .before .before .before .before .place .ensures) in
+    rw (r, ← f, le-ltb (c .before .before .before .before .before .first-at .result .0) 32 (c .before .before .before .if2 .left)) (c .queue-carried2 .ensures ∙ rw (c .before .before .without-oldest .ensures, c .before .oldest .ensures))
 
 pub received-spec : {M : Type 1} → statement M
 received-spec =

@@ -16,14 +16,6 @@ use Rattle.kernel.proofs.Laws.Answers.{is-refused, is-carried}
 use Rattle.objects.specs.Semaphores.{noSemaphore}
 use Rattle.kernel.proofs.Kernel.semaphore_delete.Statement.{statement}
 use Rattle.kernel.proofs.Kernel.semaphore_delete.Tie as tie
-use Rattle.kernel.proofs.Kernel.semaphore_delete.Reads as reads
-use Rattle.kernel.proofs.Kernel.semaphore_delete.Lts as lts
-use Rattle.kernel.proofs.Kernel.ended_each.Reads as ended-each-reads
-use Rattle.kernel.proofs.Kernel.refused.Reads as refused-reads
-use Rattle.kernel.proofs.semaphore_in.Reads as semaphore-in-reads
-use Rattle.kernel.proofs.semaphores.place.Reads as place-reads
-use Rattle.kernel.proofs.semaphores.semaphores_with.Reads as semaphores-with-reads
-
 
 semaphore-in-requires : tie.Need-semaphore-in-requires
 semaphore-in-requires c κs = search needs
@@ -36,7 +28,7 @@ refused-requires c κs = search needs
 
 returns : tie.Need-returns
 unfolding semaphoreDelete semaphoreAt
-returns c = 
+returns c =
     let a = c .before .before .before .before .before .args in
     let e = c .before .before .semaphore-delete .ensures ∙ ap (λ (x : Semaphore). semaphoreDeleteRefusal x (a .caller)) (c .before .before .before .semaphore-in .ensures) in
     c .refused .ensures ∙ ap answerOf (ap (refused (a .self)) e ∙ sym (is-refused (a .self) (semaphoreDeleteRefusal (semaphoreAt (a .self) (a .n .0)) (a .caller)) _ (λ w. c .before .if1 .taken (e ∙ w))))
@@ -58,7 +50,7 @@ ended-each-requires c κs = search needs
 
 returns-2 : tie.Need-returns-2
 unfolding semaphoreDelete semaphoreAt withSemaphore
-returns-2 c = 
+returns-2 c =
     let a = c .before .before .before .before .before .before .before .before .before .before .args in
     let e = c .before .before .before .before .before .before .before .semaphore-delete .ensures ∙ ap (λ (x : Semaphore). semaphoreDeleteRefusal x (a .caller)) (c .before .before .before .before .before .before .before .before .semaphore-in .ensures) in
     let z : semaphoreDeleteRefusal (semaphoreAt (a .self) (a .n .0)) (a .caller) ≡ 0 = sym e ∙ c .before .before .before .before .before .before .if1 .left in

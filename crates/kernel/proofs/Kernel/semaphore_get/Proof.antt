@@ -11,15 +11,6 @@ use Rattle.kernel.specs.Semaphores.{counting, semaphoreGet}
 use Rattle.kernel.proofs.Laws.Answers.{is-refused, is-carried}
 use Rattle.kernel.proofs.Kernel.semaphore_get.Statement.{statement}
 use Rattle.kernel.proofs.Kernel.semaphore_get.Tie as tie
-use Rattle.kernel.proofs.Kernel.semaphore_get.Reads as reads
-use Rattle.kernel.proofs.Kernel.semaphore_get.Lts as lts
-use Rattle.kernel.proofs.Kernel.carried.Reads as carried-reads
-use Rattle.kernel.proofs.Kernel.refused.Reads as refused-reads
-use Rattle.kernel.proofs.Kernel.started_wait.Reads as started-wait-reads
-use Rattle.kernel.proofs.semaphore_in.Reads as semaphore-in-reads
-use Rattle.kernel.proofs.semaphores.counting.Reads as counting-reads
-use Rattle.kernel.proofs.semaphores.semaphores_with.Reads as semaphores-with-reads
-
 
 semaphore-in-requires : tie.Need-semaphore-in-requires
 semaphore-in-requires c κs = search needs
@@ -32,7 +23,7 @@ refused-requires c κs = search needs
 
 returns : tie.Need-returns
 unfolding semaphoreGet semaphoreAt
-returns c = 
+returns c =
     let a = c .before .before .before .before .before .args in
     let e = c .before .before .semaphore-get .ensures ∙ ap (λ (x : Semaphore). semaphoreGetRefusal x (a .wait) (a .caller)) (c .before .before .before .semaphore-in .ensures) in
     c .refused .ensures ∙ ap answerOf (ap (refused (a .self)) e ∙ sym (is-refused (a .self) (semaphoreGetRefusal (semaphoreAt (a .self) (a .n .0)) (a .wait) (a .caller)) _ (λ w. c .before .if1 .taken (e ∙ w))))
@@ -51,7 +42,7 @@ carried-requires c κs = search needs
 
 returns-2 : tie.Need-returns-2
 unfolding semaphoreGet answerOf carried answered withScheduler withSemaphore semaphoreAt
-returns-2 c = 
+returns-2 c =
     let a = c .before .before .before .before .before .before .before .before .before .before .before .args in
     let e = c .before .before .before .before .before .before .before .before .semaphore-get .ensures ∙ ap (λ (x : Semaphore). semaphoreGetRefusal x (a .wait) (a .caller)) (c .before .before .before .before .before .before .before .before .before .semaphore-in .ensures) in
     let z : semaphoreGetRefusal (semaphoreAt (a .self) (a .n .0)) (a .wait) (a .caller) ≡ 0 = sym e ∙ c .before .before .before .before .before .before .before .if1 .left in
@@ -65,7 +56,7 @@ started-wait-requires c κs = search needs
 
 returns-3 : tie.Need-returns-3
 unfolding semaphoreGet semaphoreAt
-returns-3 c = 
+returns-3 c =
     let a = c .before .before .before .before .before .before .before .before .before .args in
     let e = c .before .before .before .before .before .before .semaphore-get .ensures ∙ ap (λ (x : Semaphore). semaphoreGetRefusal x (a .wait) (a .caller)) (c .before .before .before .before .before .before .before .semaphore-in .ensures) in
     let z : semaphoreGetRefusal (semaphoreAt (a .self) (a .n .0)) (a .wait) (a .caller) ≡ 0 = sym e ∙ c .before .before .before .before .before .if1 .left in

@@ -1,82 +1,79 @@
+use mathlib.Core.Path.{_≡_, sym, ap, _∙_}
+use mathlib.Core.Bool.{true, false}
+use Prim.Native.Nat.{_-_}
 use borrow.Author.Needs.{needs}
+use borrow.Author.Tests.{lt-ltb, le-ltb, not-true, not-false}
+use mathlib.Core.Path.{_≡_, sym, ap, _∙_}
+use Rattle.scheduler.specs.Orders.{firstAt, woken}
+use Rattle.objects.specs.Queues.{roomb}
+use Rattle.kernel.specs.Tables.{withScheduler, withHeld, withQueue}
+use Rattle.kernel.specs.Answers.{answerOf, carried, answered}
+use Rattle.kernel.specs.Waits.{endWait}
+use Rattle.kernel.specs.Queues.{queuePlace, sendTo}
 use Rattle.kernel.proofs.Kernel.sent.Statement.{statement}
 use Rattle.kernel.proofs.Kernel.sent.Tie as tie
-use Rattle.kernel.proofs.Kernel.sent.Reads as reads
-use Rattle.kernel.proofs.Kernel.sent.Lts as lts
-use Rattle.calls.proofs.held.Held.of.Reads as of-reads
-use Rattle.calls.proofs.held.Held.sender.Reads as sender-reads
-use Rattle.kernel.proofs.Kernel.carried.Reads as carried-reads
-use Rattle.kernel.proofs.Kernel.queue_carried.Reads as queue-carried-reads
-use Rattle.kernel.proofs.Kernel.started_wait.Reads as started-wait-reads
-use Rattle.kernel.proofs.queues.place.Reads as place-reads
-use Rattle.objects.proofs.queue.Queue.has_room.Reads as has-room-reads
-use Rattle.objects.proofs.queue.Queue.with_sent.Reads as with-sent-reads
-use Rattle.scheduler.proofs.Scheduler.first_at.Reads as first-at-reads
-use Rattle.scheduler.proofs.Scheduler.woken.Reads as woken-reads
 
--- src/queues.rt:99:13
 has-room-requires : tie.Need-has-room-requires
 has-room-requires c κs = search needs
 
--- src/queues.rt:100:66
 sender-requires : tie.Need-sender-requires
 sender-requires c κs = search needs
 
--- src/queues.rt:100:13
 started-wait-requires : tie.Need-started-wait-requires
 started-wait-requires c κs = search needs
 
--- src/queues.rt:100:13
 returns : tie.Need-returns
-returns c = ?
+unfolding sendTo
+returns c =
+    let a = c .before .before .before .before .args in
+    let r : roomb (a .q) ≡ false = sym (c .before .before .before .has-room .ensures) ∙ not-true (c .before .before .before .has-room .result) (c .before .before .if1 .taken) in
+    rw r (c .started-wait .ensures ∙ rw (c .before .sender .ensures))
 
--- src/queues.rt:103:28
 place-requires : tie.Need-place-requires
 place-requires c κs = search needs
 
--- src/queues.rt:103:13
 first-at-requires : tie.Need-first-at-requires
 first-at-requires c κs = search needs
 
--- src/queues.rt:104:17
 cast-i : tie.Need-cast-i
 cast-i c = search needs
 
--- src/queues.rt:106:17
 of-requires : tie.Need-of-requires
 of-requires c κs = search needs
 
--- src/queues.rt:107:13
 mul-h : tie.Need-mul-h
 mul-h c = search needs
 
--- src/queues.rt:107:13
 element-set-from-h : tie.Need-element-set-from-h
 element-set-from-h c = search needs
 
--- src/queues.rt:108:33
 woken-requires : tie.Need-woken-requires
 woken-requires c κs = search needs
 
--- src/queues.rt:108:13
 carried-requires : tie.Need-carried-requires
 carried-requires c κs = search needs
 
--- src/queues.rt:108:13
 returns-2 : tie.Need-returns-2
-returns-2 c = ?
+unfolding sendTo endWait answerOf carried answered withHeld withScheduler
+returns-2 c =
+    let a = c .before .before .before .before .before .before .before .before .before .before .args in
+    let r : roomb (a .q) ≡ true = sym (c .before .before .before .before .before .before .before .before .before .has-room .ensures) ∙ not-false (c .before .before .before .before .before .before .before .before .before .has-room .result) (c .before .before .before .before .before .before .before .before .if1 .left) in
+    let f : c .before .before .before .before .before .first-at .result .0 ≡ firstAt (a .t1 .scheduler) (queuePlace (a .n .0)) = c .before .before .before .before .before .first-at .ensures ∙ ap (firstAt (a .t1 .scheduler)) (c .before .before .before .before .before .before .place .ensures) in
+    rw (r, ← f, lt-ltb (c .before .before .before .before .before .first-at .result .0) 32 (c .before .before .before .if2 .taken)) (c .carried .ensures ∙ rw (c .before .woken .ensures, c .before .before .of .ensures))
 
--- src/queues.rt:110:31
 with-sent-requires : tie.Need-with-sent-requires
 with-sent-requires c κs = search needs
 
--- src/queues.rt:110:9
 queue-carried-requires : tie.Need-queue-carried-requires
 queue-carried-requires c κs = search needs
 
--- src/queues.rt:96:5
 returns-3 : tie.Need-returns-3
-returns-3 c = ?
+unfolding sendTo answerOf carried answered withScheduler withQueue
+returns-3 c =
+    let a = c .before .before .before .before .before .before .before .before .before .args in
+    let r : roomb (a .q) ≡ true = sym (c .before .before .before .before .before .before .before .before .has-room .ensures) ∙ not-false (c .before .before .before .before .before .before .before .before .has-room .result) (c .before .before .before .before .before .before .before .if1 .left) in
+    let f : c .before .before .before .before .first-at .result .0 ≡ firstAt (a .t1 .scheduler) (queuePlace (a .n .0)) = c .before .before .before .before .first-at .ensures ∙ ap (firstAt (a .t1 .scheduler)) (c .before .before .before .before .before .place .ensures) in
+    rw (r, ← f, le-ltb (c .before .before .before .before .first-at .result .0) 32 (c .before .before .if2 .left)) (c .queue-carried .ensures ∙ rw (c .before .with-sent .ensures))
 
 pub sent-spec : {M : Type 1} → statement M
 sent-spec =

@@ -1,7 +1,6 @@
 use Prim.Native.Nat.{_-_}
 use borrow.Author.Needs.{needs}
 use Rattle.kernel.specs.Tables.{given}
-use Rattle.kernel.specs.Clock.{tick}
 use Rattle.kernel.specs.General.{service}
 use Rattle.kernel.proofs.Kernel.service.Statement.{statement}
 use Rattle.kernel.proofs.Kernel.service.Tie as tie
@@ -135,11 +134,77 @@ semaphore-prioritize-requires c κs = search needs
 enum-known-call-18 : tie.Need-enum-known-call-18
 enum-known-call-18 c = search needs
 
-thread-state-read-requires : tie.Need-thread-state-read-requires
-thread-state-read-requires c κs = search needs
+queue-create-requires : tie.Need-queue-create-requires
+queue-create-requires c κs = search needs
 
 enum-known-call-19 : tie.Need-enum-known-call-19
 enum-known-call-19 c = search needs
+
+queue-delete-requires : tie.Need-queue-delete-requires
+queue-delete-requires c κs = search needs
+
+enum-known-call-20 : tie.Need-enum-known-call-20
+enum-known-call-20 c = search needs
+
+queue-send-requires : tie.Need-queue-send-requires
+queue-send-requires c κs = search needs
+
+enum-known-call-21 : tie.Need-enum-known-call-21
+enum-known-call-21 c = search needs
+
+queue-send-requires-2 : tie.Need-queue-send-requires-2
+queue-send-requires-2 c κs = search needs
+
+enum-known-call-22 : tie.Need-enum-known-call-22
+enum-known-call-22 c = search needs
+
+queue-receive-requires : tie.Need-queue-receive-requires
+queue-receive-requires c κs = search needs
+
+enum-known-call-23 : tie.Need-enum-known-call-23
+enum-known-call-23 c = search needs
+
+queue-flush-requires : tie.Need-queue-flush-requires
+queue-flush-requires c κs = search needs
+
+enum-known-call-24 : tie.Need-enum-known-call-24
+enum-known-call-24 c = search needs
+
+queue-prioritize-requires : tie.Need-queue-prioritize-requires
+queue-prioritize-requires c κs = search needs
+
+enum-known-call-25 : tie.Need-enum-known-call-25
+enum-known-call-25 c = search needs
+
+event-flags-create-requires : tie.Need-event-flags-create-requires
+event-flags-create-requires c κs = search needs
+
+enum-known-call-26 : tie.Need-enum-known-call-26
+enum-known-call-26 c = search needs
+
+event-flags-delete-requires : tie.Need-event-flags-delete-requires
+event-flags-delete-requires c κs = search needs
+
+enum-known-call-27 : tie.Need-enum-known-call-27
+enum-known-call-27 c = search needs
+
+event-flags-set-requires : tie.Need-event-flags-set-requires
+event-flags-set-requires c κs = search needs
+
+enum-known-call-28 : tie.Need-enum-known-call-28
+enum-known-call-28 c = search needs
+
+event-flags-get-requires : tie.Need-event-flags-get-requires
+event-flags-get-requires c κs = search needs
+
+enum-known-call-29 : tie.Need-enum-known-call-29
+enum-known-call-29 c = search needs
+
+thread-state-read-requires : tie.Need-thread-state-read-requires
+thread-state-read-requires c κs = search needs
+
+enum-known-call-30 : tie.Need-enum-known-call-30
+enum-known-call-30 c = search needs
 
 thread-words-read-requires : tie.Need-thread-words-read-requires
 thread-words-read-requires c κs = search needs
@@ -230,11 +295,55 @@ returns-21 c = rw (c .before .before .call17 .given .1) (c .semaphore-prioritize
 
 returns-22 : tie.Need-returns-22
 unfolding service
-returns-22 c = rw (c .before .before .call18 .given .1) (c .thread-state-read .ensures)
+returns-22 c = rw (c .before .before .call18 .given .1) (c .queue-create .ensures)
 
 returns-23 : tie.Need-returns-23
 unfolding service
-returns-23 c = rw (c .before .before .call19 .given .1) (c .thread-words-read .ensures)
+returns-23 c = rw (c .before .before .call19 .given .1) (c .queue-delete .ensures)
+
+returns-24 : tie.Need-returns-24
+unfolding service
+returns-24 c = rw (c .before .before .call20 .given .1) (c .queue-send .ensures)
+
+returns-25 : tie.Need-returns-25
+unfolding service
+returns-25 c = rw (c .before .before .call21 .given .1) (c .queue-send2 .ensures)
+
+returns-26 : tie.Need-returns-26
+unfolding service
+returns-26 c = rw (c .before .before .call22 .given .1) (c .queue-receive .ensures)
+
+returns-27 : tie.Need-returns-27
+unfolding service
+returns-27 c = rw (c .before .before .call23 .given .1) (c .queue-flush .ensures)
+
+returns-28 : tie.Need-returns-28
+unfolding service
+returns-28 c = rw (c .before .before .call24 .given .1) (c .queue-prioritize .ensures)
+
+returns-29 : tie.Need-returns-29
+unfolding service
+returns-29 c = rw (c .before .before .call25 .given .1) (c .event-flags-create .ensures)
+
+returns-30 : tie.Need-returns-30
+unfolding service
+returns-30 c = rw (c .before .before .call26 .given .1) (c .event-flags-delete .ensures)
+
+returns-31 : tie.Need-returns-31
+unfolding service
+returns-31 c = rw (c .before .before .call27 .given .1) (c .event-flags-set .ensures)
+
+returns-32 : tie.Need-returns-32
+unfolding service
+returns-32 c = rw (c .before .before .call28 .given .1) (c .event-flags-get .ensures)
+
+returns-33 : tie.Need-returns-33
+unfolding service
+returns-33 c = rw (c .before .before .call29 .given .1) (c .thread-state-read .ensures)
+
+returns-34 : tie.Need-returns-34
+unfolding service
+returns-34 c = rw (c .before .before .call30 .given .1) (c .thread-words-read .ensures)
 
 pub service-spec : {M : Type 1} → statement M
 service-spec =
@@ -283,8 +392,30 @@ service-spec =
     enum-known-call-17
     semaphore-prioritize-requires
     enum-known-call-18
-    thread-state-read-requires
+    queue-create-requires
     enum-known-call-19
+    queue-delete-requires
+    enum-known-call-20
+    queue-send-requires
+    enum-known-call-21
+    queue-send-requires-2
+    enum-known-call-22
+    queue-receive-requires
+    enum-known-call-23
+    queue-flush-requires
+    enum-known-call-24
+    queue-prioritize-requires
+    enum-known-call-25
+    event-flags-create-requires
+    enum-known-call-26
+    event-flags-delete-requires
+    enum-known-call-27
+    event-flags-set-requires
+    enum-known-call-28
+    event-flags-get-requires
+    enum-known-call-29
+    thread-state-read-requires
+    enum-known-call-30
     thread-words-read-requires
     returns
     returns-2
@@ -308,4 +439,15 @@ service-spec =
     returns-20
     returns-21
     returns-22
-    returns-23)
+    returns-23
+    returns-24
+    returns-25
+    returns-26
+    returns-27
+    returns-28
+    returns-29
+    returns-30
+    returns-31
+    returns-32
+    returns-33
+    returns-34)

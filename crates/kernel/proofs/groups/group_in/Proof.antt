@@ -1,33 +1,39 @@
+use mathlib.Core.Path.{_≡_, sym, _∙_}
+use Prim.Native.Nat.{_-_}
+use native.Mathlib.Omega.{arith}
 use borrow.Author.Needs.{needs}
+use lib.ListN.{length}
+use mathlib.Core.Path.{_≡_, sym, _∙_}
+use Rattle.scheduler.proofs.Laws.Threads.{length-mapped}
+use Rattle.objects.specs.Groups.{noGroup}
+use Rattle.lines.proofs.Laws.Lists.{getD-any}
+use lib.ListN.{List·getD-eq-default}
 use Rattle.kernel.proofs.groups.group_in.Statement.{statement}
 use Rattle.kernel.proofs.groups.group_in.Tie as tie
-use Rattle.kernel.proofs.groups.group_in.Reads as reads
-use Rattle.kernel.proofs.groups.group_in.Lts as lts
-use Rattle.objects.proofs.group.Group.none.Reads as none-reads
 
--- src/groups.rt:28:13
 cast-i : tie.Need-cast-i
 cast-i c = search needs
 
--- src/groups.rt:29:16
 mul-result : tie.Need-mul-result
 mul-result c = search needs
 
--- src/groups.rt:29:16
 array-copy-out-result : tie.Need-array-copy-out-result
 array-copy-out-result c = search needs
 
--- src/groups.rt:29:32
 none-requires : tie.Need-none-requires
 none-requires c κs = search needs
 
--- src/groups.rt:25:1
 returns : tie.Need-returns
-returns c = ?
+returns c =
+    let a = c .before .before .before .args in
+    let e : length (a .t1) ≡ 8 = search length-mapped in
+    getD-any (a .t1) (a .n .0) _ noGroup (omega arith)
 
--- src/groups.rt:25:1
 returns-2 : tie.Need-returns-2
-returns-2 c = ?
+returns-2 c =
+    let a = c .before .before .before .args in
+    let e : length (a .t1) ≡ 8 = search length-mapped in
+    c .none .ensures ∙ sym (List·getD-eq-default (a .t1) noGroup (omega arith))
 
 pub group-in-spec : {M : Type 1} → statement M
 group-in-spec =
