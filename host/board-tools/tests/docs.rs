@@ -1,9 +1,10 @@
 //! The examples in the documentation are what the tools print.
 
+use board_tools::compare::first_difference;
 use board_tools::names::{CALLERS, SERVICES};
 use board_tools::show::{run_table, Options};
 use board_tools::text::assemble::assemble;
-use ordinary::print;
+use ordinary::{print, Tape};
 use std::fs;
 use std::path::PathBuf;
 
@@ -44,5 +45,38 @@ fn every_service_and_caller_is_documented() {
     }
     for caller in CALLERS {
         assert!(doc.contains(&format!("`{caller}`")));
+    }
+}
+
+#[test]
+fn the_sample_tapes_have_the_stated_calls() {
+    let table = repository("tapes/README.md");
+    let folder = PathBuf::from(env!("CARGO_MANIFEST_DIR")).join("../../tapes");
+    let mut tapes = 0;
+    for entry in fs::read_dir(&folder).unwrap() {
+        let path = entry.unwrap().path();
+        if path.extension().is_none_or(|extension| extension != "tape") {
+            continue;
+        }
+        let name = path.file_name().unwrap().to_str().unwrap().to_string();
+        let tape = Tape::decode(&fs::read(&path).unwrap()).unwrap();
+        let row = format!("| `{name}` | {} | ", tape.records.len());
+        assert!(table.contains(&row), "not in tapes/README.md: {row}");
+        tapes += 1;
+    }
+    assert_eq!(table.matches(".tape` |").count(), tapes);
+}
+
+/// The stored output of a program is tested against the proved program; here
+/// it is tested against the ordinary kernel.
+#[test]
+fn the_stored_outputs_are_what_the_ordinary_kernel_prints() {
+    let folder = PathBuf::from(env!("CARGO_MANIFEST_DIR")).join("../../crates");
+    let programs: [(&str, fn(&[u8]) -> String); 2] =
+        [("inspect", print::inspect), ("replay", print::replay)];
+    for (name, prints) in programs {
+        let tape = fs::read(folder.join(name).join("stdin")).unwrap();
+        let stored = fs::read_to_string(folder.join(name).join("stdout")).unwrap();
+        assert_eq!(first_difference(&prints(&tape), &stored), None, "{name}");
     }
 }

@@ -309,15 +309,51 @@ fn queues() {
             try_all(number, caller, [2, 0, 0, 0], &[(0x09, out_of_range)]);
         }
     }
+    // 0x04 holds too where the call could not be served at once.
     let mut board = furnished();
-    board.refused(INTERRUPT, 24, &[2, 1, 0], 0x04);
-    board.refused(INTERRUPT, 26, &[1, 1], 0x04);
+    for caller in [STARTUP, INTERRUPT] {
+        for wait in [1, FOREVER] {
+            board.refused(caller, 24, &[2, wait, 0], 0x04);
+            board.refused(caller, 25, &[2, wait, 0], 0x04);
+            board.refused(caller, 26, &[1, wait], 0x04);
+        }
+    }
+}
+
+#[test]
+fn a_send_to_a_waiting_receiver_is_refused_like_any_other() {
+    for number in [24, 25] {
+        let mut board = furnished();
+        board.wait(26, &[1, FOREVER]);
+        board.refused(INTERRUPT, number, &[1, 1, 39], 0x03);
+        board.refused(INTERRUPT, number, &[1, 0, 39], 0x03);
+        board.refused(INTERRUPT, number, &[1, 1, 38], 0x04);
+        assert_eq!(board.queue_line(1), [0]);
+        assert_eq!(board.ok(INTERRUPT, number, &[1, 0, 38]).ended, 1);
+    }
 }
 
 #[test]
 fn queue_sizes() {
     let mut board = Board::new();
-    let bad = [(0, 1), (17, 17), (1, 0), (1, 65), (3, 2), (0xFFFF_FFFF, 0xFFFF_FFFF), (16, 15)];
+    let bad = [
+        (0, 1),
+        (0, 0),
+        (0, 64),
+        (17, 17),
+        (17, 64),
+        (1, 0),
+        (1, 65),
+        (3, 2),
+        (4, 3),
+        (16, 15),
+        (0xFFFF_FFFF, 64),
+        (1, 0xFFFF_FFFF),
+        (0xFFFF_FFFF, 0xFFFF_FFFF),
+        // In bounds if only their last byte counted.
+        (0x104, 64),
+        (4, 0x140),
+    ];
     for (size, storage) in bad {
         board.refused(STARTUP, 22, &[0, size, storage], 0x05);
     }
@@ -354,8 +390,17 @@ fn groups() {
             try_all(32, caller, [0, 1, option, 0], &own);
         }
     }
-    for option in [1, 3, 4, 0xFFFF_FFFF] {
+    for option in [1, 3, 4, 0x100, 0x102, 0xFFFF_FFFF] {
         furnished().refused(INTERRUPT, 31, &[0, 1, option], 0x08);
+    }
+    for option in [4, 0x100, 0x103, 0xFFFF_FFFF] {
+        furnished().refused(INTERRUPT, 32, &[0, 1, option, 0], 0x08);
+    }
+    // 0x04 holds too where the flags are not there.
+    for caller in [STARTUP, INTERRUPT] {
+        for wait in [1, FOREVER] {
+            furnished().refused(caller, 32, &[0, 6, 0, wait], 0x04);
+        }
     }
 }
 
@@ -448,7 +493,7 @@ fn uncreated_numbers_are_refused_like_those_out_of_range() {
     ];
     for (status, calls, uncreated, beyond) in numbered {
         for &number in calls {
-            for object in [uncreated, beyond, 0xFFFF_FFFF] {
+            for object in [uncreated, beyond, 0x100, 0xFFFF_FFFF] {
                 furnished().refused(THREAD, number, &[object, 0, 0, 0], status);
             }
         }

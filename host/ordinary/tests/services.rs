@@ -245,6 +245,50 @@ fn deleting_ends_waits_in_line_order_with_deleted() {
 }
 
 #[test]
+fn deleting_a_queue_drops_its_messages_and_those_of_its_senders() {
+    let mut board = threads(4);
+    board.ok(STARTUP, 22, &[0, 2, 2]);
+    board.ok(STARTUP, 24, &[0, 0, 0]);
+    board.wait(24, &[0, 9, 2]);
+    board.wait(25, &[0, FOREVER, 4]);
+    assert_eq!(board.ok(THREAD, 23, &[0]).ended, 2);
+    // Line order: the front sender 1 stood first.
+    assert_eq!(board.ready(10), [2, 3, 1, 0]);
+    for thread in [0, 1] {
+        assert_eq!((board.held_status(thread), board.held_words(thread)), (1, [0; 16]));
+        assert_eq!(board.tables.threads[thread].message, [0; 16]);
+    }
+    board.refused(THREAD, 26, &[0, 0], 0x09);
+    board.ok(STARTUP, 22, &[0, 1, 3]);
+    board.refused(THREAD, 26, &[0, 0], 0x0A);
+}
+
+#[test]
+fn deleting_a_queue_ends_the_waits_of_its_receivers() {
+    let mut board = threads(3);
+    board.ok(STARTUP, 22, &[7, 1, 1]);
+    board.wait(26, &[7, FOREVER]);
+    board.wait(26, &[7, 3]);
+    assert_eq!(board.ok(THREAD, 23, &[7]).ended, 2);
+    assert_eq!((board.held_status(0), board.held_status(1)), (1, 1));
+    assert!(!board.tables.queues[7].created);
+}
+
+#[test]
+fn an_aborted_sender_takes_its_message_along() {
+    for number in [24, 25] {
+        let mut board = threads(2);
+        board.ok(STARTUP, 22, &[0, 1, 1]);
+        board.ok(STARTUP, 24, &[0, 0, 0]);
+        board.wait(number, &[0, FOREVER, 1]);
+        assert_eq!(board.ok(INTERRUPT, 10, &[0]).ended, 1);
+        assert_eq!(board.held_status(0), 0x1A);
+        assert_eq!(board.ok(INTERRUPT, 26, &[0, 0]).words[0], 100);
+        board.refused(INTERRUPT, 26, &[0, 0], 0x0A);
+    }
+}
+
+#[test]
 fn a_send_goes_straight_to_the_first_receiver() {
     for number in [24, 25] {
         let mut board = threads(3);
