@@ -1,10 +1,11 @@
 //! The examples in the documentation are what the tools print.
 
-use board_tools::compare::first_difference;
+use board_tools::compare::{first_difference, NOT_YET};
 use board_tools::names::{CALLERS, SERVICES};
 use board_tools::show::{run_table, Options};
 use board_tools::text::assemble::assemble;
-use ordinary::{print, Tape};
+use ordinary::{print, Tables, Tape};
+use std::collections::{BTreeMap, BTreeSet};
 use std::fs;
 use std::path::PathBuf;
 
@@ -79,4 +80,37 @@ fn the_stored_outputs_are_what_the_ordinary_kernel_prints() {
         let stored = fs::read_to_string(folder.join(name).join("stdout")).unwrap();
         assert_eq!(first_difference(&prints(&tape), &stored), None, "{name}");
     }
+}
+
+/// The rows of docs/SERVICES.md: a call's number and its refusals.
+fn services_rows() -> BTreeMap<u32, BTreeSet<u32>> {
+    let doc = repository("docs/SERVICES.md");
+    let rows = doc.lines().filter_map(|line| {
+        let cells: Vec<&str> = line.split('|').map(str::trim).collect();
+        let number = cells.get(1)?.parse().ok()?;
+        let refusals = cells[5].split(' ').filter(|cell| !cell.is_empty());
+        Some((number, refusals.map(|cell| u32::from_str_radix(cell, 16).unwrap()).collect()))
+    });
+    rows.collect()
+}
+
+#[test]
+fn the_calls_that_are_known_have_a_row() {
+    let known = (1..40).filter(|number| !NOT_YET.contains(number));
+    assert!(services_rows().into_keys().eq(known));
+}
+
+#[test]
+fn the_tape_of_refusals_has_every_refusal_of_the_table() {
+    let tape = assemble(repository("tapes/refusals.txt").as_bytes()).unwrap().tape;
+    let mut seen: BTreeMap<u32, BTreeSet<u32>> =
+        services_rows().into_keys().map(|number| (number, BTreeSet::new())).collect();
+    tape.run(&mut Tables::new(), u32::MAX, |_, record, outcome, _| {
+        let status = outcome.status;
+        // What every call has (0x100 and up) is not in the table.
+        if !status.is_carried_out() && status.0 < 0x100 {
+            seen.get_mut(&record.call).unwrap().insert(status.0);
+        }
+    });
+    assert_eq!(seen, services_rows());
 }
