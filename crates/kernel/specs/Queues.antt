@@ -38,8 +38,8 @@ endQueue k n q status =
 unfoldable pub queueDelete : Kernel → ℕ → ℕ → Outcome
 queueDelete k caller n = guarded k (queueDeleteRefusal (queueAt k n) caller) (endQueue k n noQueue Statuses.deleted)
 
--- a send to queue n, whose record is q. "A send goes straight to a waiting receiver": with room in a sound queue, whoever waits there is a receiver. With nobody waiting the message is
--- stored. Without room the sender waits with its message, a front sender at the front of the line.
+-- a send to queue n, whose record is q. "A send goes straight to a waiting receiver": whoever waits on a sound queue that has room is a receiver.
+-- With nobody waiting the message is stored. Without room the sender waits with its message, a front sender at the front of the line.
 unfoldable pub sendTo : Kernel → ℕ → Queue → ℕ → Bool → List ℕ → Outcome
 sendTo k n q wait front message =
     if roomb q
@@ -54,13 +54,15 @@ queueSend k caller n wait index front messages =
     guarded k (sendRefusal (queueAt k n) index (length messages) wait caller)
     (sendTo k n (queueAt k n) wait front (messageIn messages index (queueAt k n .words)))
 
--- a receive from queue n, whose record is q, with the sender t first in line: by t's kind its message or the oldest is given, and t's wait ends with 0x00
+-- a receive from queue n, whose record is q, with the sender t first in line: by t's kind its message or the oldest is given, and t's wait
+-- ends with 0x00
 unfoldable pub receivePast : Kernel → ℕ → Queue → ℕ → Outcome
 receivePast k n q t =
     carried (withQueue (endWait k t Statuses.success noWords) n (leftPast q (heldAt k t .front) (heldAt k t .message)))
     Statuses.success (givenPast q (heldAt k t .front) (heldAt k t .message)) (t ∷ [])
 
--- with no message the receiver waits; with one in a sound queue, whoever waits there is a sender; with nobody waiting the oldest message is given
+-- a receive: with no message stored the receiver waits; whoever waits on a sound queue that has a message is a sender; with nobody waiting the
+-- oldest message is given
 unfoldable pub receiveFrom : Kernel → ℕ → Queue → ℕ → Outcome
 receiveFrom k n q wait =
     if emptyb q
@@ -73,7 +75,8 @@ receiveFrom k n q wait =
 unfoldable pub queueReceive : Kernel → ℕ → ℕ → ℕ → Outcome
 queueReceive k caller n wait = guarded k (receiveRefusal (queueAt k n) wait caller) (receiveFrom k n (queueAt k n) wait)
 
--- 27 flush: "Flush empties a non-empty queue and ends all senders' waits with 0x00"; whoever waits on a sound queue with messages is a sender
+-- 27 flush: "Flush empties a non-empty queue and ends all senders' waits with 0x00"; whoever waits on a sound queue that has a message is a
+-- sender
 unfoldable pub queueFlush : Kernel → ℕ → Outcome
 queueFlush k n =
     guarded k (queueRefusal (queueAt k n))

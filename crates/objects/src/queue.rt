@@ -224,7 +224,7 @@ impl Queue {
     }
 }
 
-// Whether a message of 1 to 16 words, a store of 1 to 64, and room for at least one message.
+// Whether messages have 1 to 16 words, the store 1 to 64, and at least one message fits.
 pub fn sizes_fit(words: u32, storage: u32) -> bool
     ensures { λ r. ⌜ r ≡ sizesFitb words storage ⌝ }
 {
