@@ -10,6 +10,8 @@ use Rattle.objects.specs.declared.queue.Queue.{Queue}
 use Rattle.objects.specs.declared.group.Group.{Group}
 use Rattle.objects.specs.Queues.{emptyb, roomb, sizesFitb}
 use Rattle.objects.specs.Groups.{metb}
+use Rattle.objects.specs.declared.pool.Pool.{Pool}
+use Rattle.objects.specs.Pools.{blockSizesb, usedb}
 use Rattle.calls.specs.Calls.{interrupt, thread}
 use Rattle.calls.specs.Statuses
 
@@ -203,3 +205,34 @@ getRefusal g request option wait caller =
     (firstOf (unless (leb option 3) Statuses.optionError)
     (firstOf (unless (mayWaitb wait caller) Statuses.waitError)
     (unless (ltb 0 wait || metb (g .flags) request option) Statuses.noEvents)))
+
+-- ---- pools: n is the number, p its record
+-- 33 create: 02 05 13
+unfoldable pub poolCreateRefusal : ℕ → Pool → ℕ → ℕ → ℕ → ℕ
+poolCreateRefusal n p block total caller =
+    firstOf (unless (ltb n 4 && not (p .created)) Statuses.poolError)
+    (firstOf (unless (blockSizesb block total) Statuses.sizeError)
+    (unless (allowsS caller) Statuses.callerError))
+
+-- 34 delete: 02 13
+unfoldable pub poolDeleteRefusal : Pool → ℕ → ℕ
+poolDeleteRefusal p caller =
+    firstOf (unless (p .created) Statuses.poolError)
+    (unless (allowsT caller) Statuses.callerError)
+
+-- 35 allocate: 02 04 10
+unfoldable pub allocateRefusal : Pool → ℕ → ℕ → ℕ
+allocateRefusal p wait caller =
+    firstOf (unless (p .created) Statuses.poolError)
+    (firstOf (unless (mayWaitb wait caller) Statuses.waitError)
+    (unless (ltb 0 wait || ltb 0 (p .free)) Statuses.noMemory))
+
+-- 36 release: 02 03
+unfoldable pub releaseRefusal : Pool → ℕ → ℕ
+releaseRefusal p block =
+    firstOf (unless (p .created) Statuses.poolError)
+    (unless (usedb p block) Statuses.ptrError)
+
+-- 37 prioritise: 02
+unfoldable pub poolRefusal : Pool → ℕ
+poolRefusal p = unless (p .created) Statuses.poolError

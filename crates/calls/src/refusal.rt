@@ -1,6 +1,6 @@
 // For each call the first reason that refuses it, in the order of the papers' table; 0 where there is none.
 ghost use mathlib.Core.Path.{_≡_};
-ghost use Rattle.calls.specs.Refusals.{unless, firstOf, createRefusal, deleteRefusal, resumeRefusal, suspendRefusal, terminateRefusal, resetRefusal, threadOnlyRefusal, abortRefusal, priorityRefusal, preemptionRefusal, tickRefusal, readRefusal, semaphoreCreateRefusal, semaphoreDeleteRefusal, semaphoreGetRefusal, semaphoreRefusal, ceilingRefusal, queueCreateRefusal, queueDeleteRefusal, sendRefusal, receiveRefusal, queueRefusal, groupCreateRefusal, groupDeleteRefusal, setRefusal, getRefusal};
+ghost use Rattle.calls.specs.Refusals.{unless, firstOf, createRefusal, deleteRefusal, resumeRefusal, suspendRefusal, terminateRefusal, resetRefusal, threadOnlyRefusal, abortRefusal, priorityRefusal, preemptionRefusal, tickRefusal, readRefusal, semaphoreCreateRefusal, semaphoreDeleteRefusal, semaphoreGetRefusal, semaphoreRefusal, ceilingRefusal, queueCreateRefusal, queueDeleteRefusal, sendRefusal, receiveRefusal, queueRefusal, groupCreateRefusal, groupDeleteRefusal, setRefusal, getRefusal, poolCreateRefusal, poolDeleteRefusal, allocateRefusal, releaseRefusal, poolRefusal};
 use super::call::INTERRUPT;
 use super::call::THREAD;
 use super::call::option_of;
@@ -11,8 +11,10 @@ use super::status::GROUP_ERROR;
 use super::status::INVALID_CEILING;
 use super::status::NO_EVENTS;
 use super::status::NO_INSTANCE;
+use super::status::NO_MEMORY;
 use super::status::NOT_DONE;
 use super::status::OPTION_ERROR;
+use super::status::POOL_ERROR;
 use super::status::PRIORITY_ERROR;
 use super::status::PTR_ERROR;
 use super::status::QUEUE_EMPTY;
@@ -31,6 +33,8 @@ use lines::ThreadId;
 use objects::group::Group;
 use objects::group::GroupId;
 use objects::group::is_met;
+use objects::pool::Pool;
+use objects::pool::PoolId;
 use objects::queue::Queue;
 use objects::queue::QueueId;
 use objects::queue::sizes_fit;
@@ -338,4 +342,53 @@ pub fn flags_get(g: Group, request: u32, option: u32, wait: u32, caller: u32) ->
             ),
         ),
     )
+}
+
+pub fn pool_create(n: PoolId, p: Pool, block: u32, total: u32, caller: u32) -> u32
+    ensures { λ r. ⌜ r ≡ poolCreateRefusal (n .0) p block total caller ⌝ }
+{
+    first(
+        unless((n.0 < 4) & !p.created, POOL_ERROR),
+        first(
+            unless(objects::pool::sizes_fit(block, total), SIZE_ERROR),
+            unless(!(caller == INTERRUPT), CALLER_ERROR),
+        ),
+    )
+}
+
+pub fn pool_delete(p: Pool, caller: u32) -> u32
+    ensures { λ r. ⌜ r ≡ poolDeleteRefusal p caller ⌝ }
+{
+    first(
+        unless(p.created, POOL_ERROR),
+        unless(caller == THREAD, CALLER_ERROR),
+    )
+}
+
+pub fn allocate(p: Pool, wait: u32, caller: u32) -> u32
+    ensures { λ r. ⌜ r ≡ allocateRefusal p wait caller ⌝ }
+{
+    first(
+        unless(p.created, POOL_ERROR),
+        first(
+            unless((wait == 0) | (caller == THREAD), WAIT_ERROR),
+            unless((0 < wait) | p.has_free(), NO_MEMORY),
+        ),
+    )
+}
+
+pub fn release(p: Pool, block: u32) -> u32
+    ensures { λ r. ⌜ r ≡ releaseRefusal p block ⌝ }
+{
+    first(
+        unless(p.created, POOL_ERROR),
+        unless(p.is_used(block), PTR_ERROR),
+    )
+}
+
+// Prioritise.
+pub fn pool(p: Pool) -> u32
+    ensures { λ r. ⌜ r ≡ poolRefusal p ⌝ }
+{
+    unless(p.created, POOL_ERROR)
 }

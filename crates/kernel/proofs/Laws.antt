@@ -9,6 +9,7 @@ pub mod KeepsTicks
 pub mod KeepsSemaphores
 pub mod KeepsQueues
 pub mod KeepsGroups
+pub mod KeepsPools
 pub mod Claims
 pub mod Runs
 pub mod Cases

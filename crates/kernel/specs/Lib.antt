@@ -6,6 +6,7 @@ pub mod Clock
 pub mod Semaphores
 pub mod Queues
 pub mod Groups
+pub mod Pools
 pub mod Sound
 pub mod General
 pub mod Claims

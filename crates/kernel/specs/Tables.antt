@@ -68,6 +68,9 @@ withQueue k n q = record { scheduler = k .scheduler; held = k .held; semaphores 
 unfoldable pub withGroup : Kernel → ℕ → Group → Kernel
 withGroup k n g = record { scheduler = k .scheduler; held = k .held; semaphores = k .semaphores; queues = k .queues; groups = set (k .groups) n g; pools = k .pools; clock = k .clock }
 
+unfoldable pub withPool : Kernel → ℕ → Pool → Kernel
+withPool k n p = record { scheduler = k .scheduler; held = k .held; semaphores = k .semaphores; queues = k .queues; groups = k .groups; pools = set (k .pools) n p; clock = k .clock }
+
 unfoldable pub withClock : Kernel → ℕ → Kernel
 withClock k c = record { scheduler = k .scheduler; held = k .held; semaphores = k .semaphores; queues = k .queues; groups = k .groups; pools = k .pools; clock = c }
 

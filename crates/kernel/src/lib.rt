@@ -20,6 +20,7 @@ use scheduler::Scheduler;
 pub mod clock;
 pub mod general;
 pub mod groups;
+pub mod pools;
 pub mod queues;
 pub mod run;
 pub mod semaphores;

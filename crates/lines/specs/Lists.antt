@@ -2,7 +2,7 @@
 use mathlib.Core.Path.{_≡_}
 use mathlib.Core.List.{List, [], _∷_, _++_}
 use mathlib.Core.Bool.{Bool, true, _&&_, not}
-use Prim.Native.Nat.{ℕ, _+_, min}
+use Prim.Native.Nat.{ℕ, zero, suc, _+_, min}
 use lib.ListN.{getD}
 use lib.Bits.{bitOr}
 use lib.Dec.{eqb, ltb}
@@ -15,6 +15,11 @@ nobody = 32
 -- priorities are 0 to 31, the best first; this number is worse than all of them
 abbrev pub worst : ℕ
 worst = 32
+
+-- n numbers in order, the first of them i
+unfoldable pub numbersFrom : ℕ → ℕ → List ℕ
+numbersFrom i zero = []
+numbersFrom i (suc n) = i ∷ numbersFrom (suc i) n
 
 -- those of a list for whom a test holds, in the list's order
 unfoldable pub filter : (ℕ → Bool) → List ℕ → List ℕ

@@ -1,10 +1,11 @@
 -- The call tape: its words, when it is refused, its records and its message words.
-use mathlib.Core.List.{List, [], _∷_, map}
+use mathlib.Core.List.{List, map}
 use mathlib.Core.Bool.{Bool, _||_, not}
-use Prim.Native.Nat.{ℕ, zero, suc, _+_, _*_}
+use Prim.Native.Nat.{ℕ, _+_, _*_}
 use lib.ListN.{length, getD}
 use lib.Dec.{eqb, ltb}
 use Rattle.lines.specs.Logic.{if_then_else_}
+use Rattle.lines.specs.Lists.{numbersFrom}
 use Rattle.tape.specs.declared.Record.{Record}
 
 -- ---- the format's numbers
@@ -98,11 +99,6 @@ recordAt bytes i = if ltb i mostRecords then recordFrom bytes (recordsEnd i) els
 -- message word i, from 0
 unfoldable pub messageAt : List ℕ → ℕ → ℕ
 messageAt bytes i = wordAt bytes (tapeEnd (countOf bytes) i)
-
--- n numbers in order, the first of them i
-unfoldable pub numbersFrom : ℕ → ℕ → List ℕ
-numbersFrom i zero = []
-numbersFrom i (suc n) = i ∷ numbersFrom (suc i) n
 
 -- all records in order
 unfoldable pub recordsOf : List ℕ → List Record

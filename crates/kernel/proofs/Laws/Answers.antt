@@ -11,11 +11,13 @@ use Rattle.lines.specs.Logic.{if_then_else_}
 use Rattle.lines.proofs.Laws.Logic.{by-test}
 use Rattle.lines.proofs.Laws.Lists.{getD-any}
 use Rattle.objects.specs.declared.queue.Queue.{Queue}
+use Rattle.objects.specs.declared.pool.Pool.{Pool}
 use Rattle.objects.specs.Queues.{noQueue}
+use Rattle.objects.specs.Pools.{noPool}
 use Rattle.calls.specs.declared.held.Held.{Held}
 use Rattle.calls.specs.Refusals.{unless, firstOf}
 use Rattle.kernel.specs.declared.Kernel.{Kernel}
-use Rattle.kernel.specs.Tables.{queueAt, withHeld, withQueue}
+use Rattle.kernel.specs.Tables.{queueAt, poolAt, withHeld, withQueue, withPool}
 use Rattle.kernel.specs.Answers.{Outcome, refused, guarded}
 
 -- ---- refused or carried out
@@ -70,3 +72,18 @@ module _ (k : Kernel) (n : ℕ) (sized : length (k .queues) ≡ 8) (past : 8 ≤
 pub queue-in : (k : Kernel) (n : ℕ) (d : Queue) → length (k .queues) ≡ 8 → n < 8 → getD (k .queues) n d ≡ queueAt k n
 unfolding queueAt
 queue-in k n d sized small = getD-any (k .queues) n d noQueue (omega (arith, sized, small))
+
+-- ---- a pool past the table
+module _ (k : Kernel) (n : ℕ) (sized : length (k .pools) ≡ 4) (past : 4 ≤ n) where
+  pub pool-none : poolAt k n ≡ noPool
+  unfolding poolAt
+  pool-none = List·getD-eq-default (k .pools) noPool (omega (arith, sized, past))
+
+  pub pool-out : (p : Pool) → withPool k n p ≡ k
+  unfolding withPool
+  pool-out p = rw (set-out (k .pools) n p (omega (arith, sized, past)))
+
+-- one in the table, whatever a read past it would give
+pub pool-in : (k : Kernel) (n : ℕ) (d : Pool) → length (k .pools) ≡ 4 → n < 4 → getD (k .pools) n d ≡ poolAt k n
+unfolding poolAt
+pool-in k n d sized small = getD-any (k .pools) n d noPool (omega (arith, sized, small))

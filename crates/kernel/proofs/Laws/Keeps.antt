@@ -25,14 +25,15 @@ use Rattle.objects.specs.declared.semaphore.Semaphore.{Semaphore}
 use Rattle.objects.specs.Semaphores.{noSemaphore, semaphoreFitb}
 use Rattle.objects.specs.declared.queue.Queue.{Queue}
 use Rattle.objects.specs.declared.group.Group.{Group}
+use Rattle.objects.specs.declared.pool.Pool.{Pool}
 use Rattle.objects.specs.Queues.{noQueue, queueFitb}
 use Rattle.objects.specs.Groups.{noGroup, groupFitb}
-use Rattle.objects.specs.Pools.{poolFitb}
+use Rattle.objects.specs.Pools.{noPool, poolFitb}
 use Rattle.calls.specs.declared.held.Held.{Held}
 use Rattle.calls.specs.Held.{noWords, holding, noHeld, waiting, sending, requesting}
 use Rattle.calls.specs.Statuses as Statuses
 use Rattle.kernel.specs.declared.Kernel.{Kernel}
-use Rattle.kernel.specs.Tables.{threadOf, runnerOf, heldAt, semaphoreAt, withScheduler, withHeld, withSemaphore, withQueue, withGroup, withClock, given, queueAt, groupAt, poolAt}
+use Rattle.kernel.specs.Tables.{threadOf, runnerOf, heldAt, semaphoreAt, withScheduler, withHeld, withSemaphore, withQueue, withGroup, withPool, withClock, given, queueAt, groupAt, poolAt}
 use Rattle.kernel.specs.Answers.{Outcome, refused, carried, guarded}
 use Rattle.kernel.specs.Waits.{endWait, endEach, startWait}
 use Rattle.waiting.specs.Fit.{blankFrom, waitsOnb, sendsb, statusFitb, wordsFitb, senderFitb, requestFitb, unheldFitb, heldFitb, semaphoreWaitb, queueWaitb, groupWaitb, poolWaitb}
@@ -386,6 +387,16 @@ module _ (k : Kernel) (th : Thread) (h : Held) where
       (implies-in (waitsOnb 7 th) (groupWaitb h (groupAt k (th .object))) (λ w. x))
       (unasked 8 th (poolWaitb (poolAt k (th .object))) (λ q. omega (arith, e, q)))
 
+  -- who waits for a block
+  pub wait-pool : th .state ≡ 8 → poolWaitb (poolAt k (th .object)) ≡ true → waitOf k th h ≡ true
+  unfolding waitOf
+  wait-pool e x =
+      four (queueAsk k th h) (semaphoreAsk k th) (groupAsk k th h) (poolAsk k th)
+      (unasked 5 th (queueWaitb h (queueAt k (th .object))) (λ q. omega (arith, e, q)))
+      (unasked 6 th (semaphoreWaitb (semaphoreAt k (th .object))) (λ q. omega (arith, e, q)))
+      (unasked 7 th (groupWaitb h (groupAt k (th .object))) (λ q. omega (arith, e, q)))
+      (implies-in (waitsOnb 8 th) (poolWaitb (poolAt k (th .object))) (λ w. x))
+
   -- what is asked of each kind of object
   pub asked : waitOf k th h ≡ true → (queueAsk k th h ≡ true) × (semaphoreAsk k th ≡ true) × (groupAsk k th h ≡ true) × (poolAsk k th ≡ true)
   unfolding waitOf
@@ -528,6 +539,50 @@ module _ (k : Kernel) (F : Fit k) (n : ℕ) (x : Group) (small : n < 8) where
             (λ e. ap (λ (y : ℕ). groupFitb (groupAt (withGroup k n x) y)) e ∙ ap (λ (y : Group). groupFitb y) group-self ∙ fit)
             (λ o. ap (λ (y : Group). groupFitb y) (group-other m o) ∙ F .groups m l);
         pools = F .pools;
+      }
+
+-- ---- one pool gets a record
+module _ (k : Kernel) (F : Fit k) (n : ℕ) (x : Pool) (small : n < 4) where
+  pool-self : poolAt (withPool k n x) n ≡ x
+  unfolding poolAt withPool
+  pool-self = getD-set-same (k .pools) n x noPool (let e = F .poolsSized in omega (arith, e, small))
+
+  pool-other : (m : ℕ) → (m ≡ n → ⊥) → poolAt (withPool k n x) m ≡ poolAt k m
+  unfolding poolAt withPool
+  pool-other m o = getD-set-other (k .pools) n m x noPool o
+
+  -- who waits on it may wait on the new record, and all others wait as before
+  pool-waits : (th : Thread) (h : Held) → (waitsOnb 8 th ≡ true → th .object ≡ n → poolWaitb x ≡ true) → waitOf k th h ≡ true → waitOf (withPool k n x) th h ≡ true
+  unfolding waitOf withPool queueAt semaphoreAt groupAt
+  pool-waits th h here w =
+      let p = asked k th h w in
+      four (queueAsk k th h) (semaphoreAsk k th) (groupAsk k th h) (poolAsk (withPool k n x) th)
+      (p .0)
+      (p .1)
+      (p .2)
+      (implies-in (waitsOnb 8 th) (poolWaitb (poolAt (withPool k n x) (th .object)))
+      (λ e. by-eq (th .object) n
+      (λ m. ap (λ (y : ℕ). poolWaitb (poolAt (withPool k n x) y)) m ∙ ap (λ (y : Pool). poolWaitb y) pool-self ∙ here e m)
+      (λ m. ap (λ (y : Pool). poolWaitb y) (pool-other (th .object) m) ∙ implies-out (waitsOnb 8 th) (poolWaitb (poolAt k (th .object))) (p .3) e)))
+
+  pub fit-pool : poolFitb x ≡ true → ((t : ℕ) → t < 32 → waitsOnb 8 (threadOf k t) ≡ true → threadOf k t .object ≡ n → poolWaitb x ≡ true) → Fit (withPool k n x)
+  unfolding withPool heldAt queueAt semaphoreAt groupAt
+  fit-pool fit here =
+      record {
+        steady = F .steady;
+        heldSized = F .heldSized;
+        semaphoresSized = F .semaphoresSized;
+        queuesSized = F .queuesSized;
+        groupsSized = F .groupsSized;
+        poolsSized = length-set (k .pools) n x ∙ F .poolsSized;
+        held = F .held;
+        waits = λ t l. pool-waits (threadOf k t) (heldAt k t) (here t l) (F .waits t l);
+        semaphores = F .semaphores;
+        queues = F .queues;
+        groups = F .groups;
+        pools = λ m l. by-eq m n
+            (λ e. ap (λ (y : ℕ). poolFitb (poolAt (withPool k n x) y)) e ∙ ap (λ (y : Pool). poolFitb y) pool-self ∙ fit)
+            (λ o. ap (λ (y : Pool). poolFitb y) (pool-other m o) ∙ F .pools m l);
       }
 
 -- ---- ended waits

@@ -20,9 +20,10 @@ use Rattle.scheduler.specs.Orders.{threadAt, withThread, withOrder, moved, woke
 use Rattle.objects.specs.declared.semaphore.Semaphore.{Semaphore}
 use Rattle.objects.specs.declared.queue.Queue.{Queue}
 use Rattle.objects.specs.declared.group.Group.{Group}
+use Rattle.objects.specs.declared.pool.Pool.{Pool}
 use Rattle.calls.specs.Held.{noWords}
 use Rattle.kernel.specs.declared.Kernel.{Kernel}
-use Rattle.kernel.specs.Tables.{threadOf, heldAt, withScheduler, withHeld, withSemaphore, withQueue, withGroup}
+use Rattle.kernel.specs.Tables.{threadOf, heldAt, withScheduler, withHeld, withSemaphore, withQueue, withGroup, withPool}
 use Rattle.waiting.specs.Ticks.{timedb, timeoutStatus, withTicks, lastTickb}
 use Rattle.kernel.specs.Waits.{endWait, endEach, tickOne, tickBelow, timedOut}
 
@@ -55,6 +56,10 @@ each-queue k n q status words xs = each-past (λ y. withQueue y n q) status word
 pub each-group : (k : Kernel) (n : ℕ) (g : Group) (status : ℕ) (words xs : List ℕ) → endEach (withGroup k n g) status words xs ≡ withGroup (endEach k status words xs) n g
 unfolding endWait withHeld withScheduler withGroup
 each-group k n g status words xs = each-past (λ y. withGroup y n g) status words (λ y t. refl) k xs
+
+pub each-pool : (k : Kernel) (n : ℕ) (p : Pool) (status : ℕ) (words xs : List ℕ) → endEach (withPool k n p) status words xs ≡ withPool (endEach k status words xs) n p
+unfolding endWait withHeld withScheduler withPool
+each-pool k n p status words xs = each-past (λ y. withPool y n p) status words (λ y t. refl) k xs
 
 -- ---- ticks
 -- the tick of thread n leaves the others' records

@@ -1,16 +1,16 @@
--- Laws of lists: the part for which a test holds, taking out, counting, beginning with a list.
+-- Laws of lists: the part for which a test holds, taking out, counting, numbers in order, beginning with a list.
 use mathlib.Core.Path.{_≡_, refl, sym, ap, _∙_}
 use mathlib.Core.List.{List, [], _∷_, _++_, append-nil, append-assoc}
 use mathlib.Core.Bool.{Bool, true, false, _&&_, not}
-use Prim.Native.Nat.{ℕ, zero, suc, _+_, _≤_, _<_}
-use native.Mathlib.Nat.{zero-add, not-suc-le-zero, le-of-suc-le-suc}
+use Prim.Native.Nat.{ℕ, zero, suc, _+_, _≤_, _<_, min}
+use native.Mathlib.Nat.{zero-add, not-suc-le-zero, le-of-suc-le-suc, zero-min, suc-min-suc}
 use native.Mathlib.Omega.{arith}
-use lib.ListN.{length, getD}
+use lib.ListN.{length, take, getD}
 use lib.Dec.{eqb, ltb}
 use borrow.Author.Tests.{eq-eqb, ne-eqb, eqb-false, ltb-true, ltb-false}
 use Rattle.lines.specs.Logic.{if_then_else_, oneIf}
-use Rattle.lines.specs.Lists.{filter, without, onlyIf, count, below, first, firstWith, Begins}
-use Rattle.lines.proofs.Laws.Logic.{by-test, by-eq, never, and-left, and-right, and-in}
+use Rattle.lines.specs.Lists.{numbersFrom, filter, without, onlyIf, count, below, first, firstWith, Begins}
+use Rattle.lines.proofs.Laws.Logic.{by-test, by-eq, never, and-left, and-right, and-in, one-at-most}
 
 -- within a list the default is not read
 pub getD-any : {A : Type 0} (l : List A) (i : ℕ) (d e : A) → i < length l → getD l i d ≡ getD l i e
@@ -219,6 +219,47 @@ below-in n (x ∷ xs) h =
     and-in (ltb x n) (below n xs)
     (by-test (ltb x n) (λ e. e) (λ e. absurd (not-suc-le-zero (let z = h x (ltb-false x n e) in let c = count-here x xs in let y : 1 ≤ 0 = omega (arith, z, c) in y))))
     (below-in n xs (λ t l. let z = h t l in omega (arith, z)))
+
+-- ---- numbers in order
+pub length-numbers : (i n : ℕ) → length (numbersFrom i n) ≡ n
+unfolding numbersFrom
+length-numbers i zero = refl
+length-numbers i (suc n) = ap suc (length-numbers (suc i) n)
+
+pub number-at : (i n k : ℕ) → k < n → getD (numbersFrom i n) k 0 ≡ i + k
+unfolding numbersFrom
+number-at i zero k h = absurd (not-suc-le-zero h)
+number-at i (suc n) zero h = omega arith
+number-at i (suc n) (suc k) h = let r = number-at (suc i) n k (le-of-suc-le-suc h) in omega (arith, r)
+
+pub take-numbers : (k i n : ℕ) → take k (numbersFrom i n) ≡ numbersFrom i (min k n)
+unfolding numbersFrom
+take-numbers zero i n = ap (numbersFrom i) (sym (zero-min n))
+take-numbers (suc k) i zero = ap (numbersFrom i) (let e : 0 ≡ min (suc k) 0 = omega arith in e)
+take-numbers (suc k) i (suc n) = ap {B = List ℕ} (λ r. i ∷ r) (take-numbers k (suc i) n) ∙ ap (numbersFrom i) (sym (suc-min-suc k n))
+
+-- each number of the range stands there once, and no other
+pub numbers-before : (i n t : ℕ) → t < i → count t (numbersFrom i n) ≡ 0
+unfolding numbersFrom count
+numbers-before i zero t h = refl
+numbers-before i (suc n) t h =
+    count-there t i (numbersFrom (suc i) n) (λ q. not-suc-le-zero (let y : 1 ≤ 0 = omega (arith, q, h) in y))
+    ∙ numbers-before (suc i) n t (omega arith)
+
+pub numbers-past : (i n t : ℕ) → i + n ≤ t → count t (numbersFrom i n) ≡ 0
+unfolding numbersFrom count
+numbers-past i zero t h = refl
+numbers-past i (suc n) t h =
+    count-there t i (numbersFrom (suc i) n) (λ q. not-suc-le-zero (let y : 1 ≤ 0 = omega (arith, q, h) in y))
+    ∙ numbers-past (suc i) n t (omega arith)
+
+pub numbers-once : (i n t : ℕ) → count t (numbersFrom i n) ≤ 1
+unfolding numbersFrom count
+numbers-once i zero t = omega arith
+numbers-once i (suc n) t =
+    by-eq i t
+    (λ q. let z = numbers-before (suc i) n t (omega (arith, q)) in let o = one-at-most (eqb i t) in omega (arith, z, o))
+    (λ q. let r = numbers-once (suc i) n t in let e = count-there t i (numbersFrom (suc i) n) q in omega (arith, r, e))
 
 -- ---- the first for whom a test holds
 module _ (f : ℕ → Bool) where

@@ -1,11 +1,11 @@
 -- Laws of lists of block numbers: below a bound slot by slot, and how often each is listed.
 use mathlib.Core.Path.{_≡_, refl, sym, ap, _∙_}
 use mathlib.Core.List.{List, [], _∷_}
-use mathlib.Core.Bool.{Bool, true, _||_, not}
+use mathlib.Core.Bool.{Bool, true, false, _&&_, _||_, not, and-true, and-false, and-assoc}
 use Prim.Native.Nat.{ℕ, zero, suc, _+_, _≤_, _<_}
 use native.Mathlib.Nat.{not-suc-le-zero, le-of-suc-le-suc}
 use native.Mathlib.Omega.{arith}
-use lib.ListN.{length, take, getD, set, length-take}
+use lib.ListN.{length, take, drop, getD, set, length-take}
 use lib.Seq.{getD-take, getD-set-same, getD-set-other}
 use lib.Dec.{eqb, ltb}
 use borrow.Author.Tests.{ltb-true, lt-ltb, eq-eqb, ne-eqb}
@@ -57,6 +57,17 @@ module _ (n k : ℕ) (xs : List ℕ) where
 pub count-small : (t : ℕ) (xs : List ℕ) → count t xs ≤ length xs
 count-small t xs = let e = length-without t xs in omega (arith, e)
 
+-- ---- all but the first
+pub count-left : (t : ℕ) (xs : List ℕ) → count t (drop 1 xs) ≤ count t xs
+unfolding count
+count-left t [] = omega arith
+count-left t (x ∷ xs) = let z : count t (x ∷ xs) ≡ oneIf (eqb x t) + count t xs = refl in omega (arith, z)
+
+pub first-rest : (xs : List ℕ) (d : ℕ) → 0 < length xs → xs ≡ getD xs 0 d ∷ drop 1 xs
+first-rest [] d h = absurd (not-suc-le-zero h)
+first-rest (x ∷ xs) d h = refl
+
+-- ---- tallies
 -- counts of the first i slots of a list
 abbrev pub Tallied : List ℕ → List ℕ → Type 0
 Tallied counts xs = (k : ℕ) → k < 64 → getD counts k 0 ≡ count k xs
@@ -87,3 +98,17 @@ tallied-past counts xs i h l t k b =
     let r = t k b in
     let w : oneIf (eqb x k) ≡ 0 = ap oneIf (ne-eqb x k (λ z. not-suc-le-zero (let y : 1 ≤ 0 = omega (arith, z, l, b) in y))) in
     omega (arith, o, w, r)
+
+-- ---- a number that is not listed
+-- one slot more in which it does not stand
+pub unlisted-more : (b : Bool) (n i : ℕ) (xs : List ℕ) → i < length xs
+    → (b && eqb (count n (take i xs)) 0 && not (eqb (getD xs i 0) n)) ≡ (b && eqb (count n (take (i + 1) xs)) 0)
+unfolding oneIf
+unlisted-more b n i xs h =
+    let o : count n (take (i + 1) xs) ≡ count n (take i xs) + oneIf (eqb (getD xs i 0) n) = ap (count n) (take-one xs i h) ∙ count-one n (getD xs i 0) (take i xs) in
+    and-assoc b (eqb (count n (take i xs)) 0) (not (eqb (getD xs i 0) n))
+    ∙ ap (λ (r : Bool). b && r) (go (count n (take i xs)) (eqb (getD xs i 0) n) ∙ ap (λ (k : ℕ). eqb k 0) (sym o))
+  where
+    go : (k : ℕ) (e : Bool) → (eqb k 0 && not e) ≡ eqb (k + oneIf e) 0
+    go k true = and-false (eqb k 0) ∙ sym (ne-eqb (k + 1) 0 (λ z. not-suc-le-zero (let y : 1 ≤ 0 = omega (arith, z) in y)))
+    go k false = and-true (eqb k 0) ∙ ap (λ (j : ℕ). eqb j 0) (let z : k ≡ k + 0 = omega arith in z)

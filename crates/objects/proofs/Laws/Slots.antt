@@ -1,12 +1,12 @@
 -- Laws of stores and lists in 64 slots.
 use mathlib.Core.Path.{_≡_, refl, sym, ap, ap₂, _∙_}
-use mathlib.Core.List.{List, [], _∷_}
+use mathlib.Core.List.{List, [], _∷_, _++_}
 use mathlib.Core.Bool.{Bool, true, false, _&&_, _||_}
-use Prim.Native.Nat.{ℕ, zero, suc, _-_, _*_, _≤_, _<_, min}
+use Prim.Native.Nat.{ℕ, zero, suc, _+_, _-_, _*_, _≤_, _<_, min}
 use native.Mathlib.Nat.{mul-le-mul, zero-min, suc-min-suc, sub-zero, zero-sub, suc-sub-suc}
 use native.Mathlib.Omega.{arith}
 use lib.ListN.{length, take, drop, getD, replicate, length-take, length-replicate, getD-replicate}
-use lib.Seq.{take-nil, drop-nil, ext-getD}
+use lib.Seq.{take-nil, drop-nil, ext-getD, getD-append-add}
 use lib.Dec.{eqb, ltb}
 use borrow.Author.Tests.{eqb-true, eq-eqb, le-ltb, ltb-false}
 use Rattle.lines.specs.Logic.{allBelow}
@@ -53,6 +53,12 @@ part zero k xs = ap (λ (n : ℕ). take n xs) (sub-zero k)
 part (suc j) zero xs = ap (λ (n : ℕ). take n (drop (suc j) xs)) (zero-sub (suc j))
 part (suc j) (suc k) [] = take-nil (suc k - suc j)
 part (suc j) (suc k) (x ∷ xs) = ap (λ (n : ℕ). take n (drop j xs)) (suc-sub-suc k j) ∙ part j k xs
+
+-- a place behind the first part is a place of the second
+pub getD-behind : (xs ys : List ℕ) (i : ℕ) → length xs ≤ i → getD (xs ++ ys) i 0 ≡ getD ys (i - length xs) 0
+getD-behind xs ys i h =
+    let e : i ≡ length xs + (i - length xs) = omega (arith, h) in
+    ap (λ (k : ℕ). getD (xs ++ ys) k 0) e ∙ getD-append-add xs ys (i - length xs) 0
 
 -- ---- zero behind what is in use
 module _ (n : ℕ) (xs : List ℕ) where

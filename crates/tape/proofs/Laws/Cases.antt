@@ -5,7 +5,8 @@ use mathlib.Core.List.{List, [], _∷_, _++_}
 use mathlib.Core.Bool.{true, false}
 use Prim.Native.Nat.{ℕ}
 use lib.ListN.{take, set}
-use Rattle.tape.specs.Tapes.{wordAt, recordsEnd, tapeEnd, refusedb, countOf, messageCountOf, recordFrom, recordAt, messageAt, numbersFrom, recordsOf, messagesOf}
+use Rattle.lines.specs.Lists.{numbersFrom}
+use Rattle.tape.specs.Tapes.{wordAt, recordsEnd, tapeEnd, refusedb, countOf, messageCountOf, recordFrom, recordAt, messageAt, recordsOf, messagesOf}
 
 -- a send by a thread to queue 3, without end, of the words from 0 on; the fourth argument is 256
 unfoldable sample : List ℕ

@@ -2,20 +2,20 @@
 use mathlib.Core.Path.{_≡_, refl, sym, ap, ap₂, _∙_}
 use mathlib.Core.List.{List, [], _∷_, map}
 use mathlib.Core.Bool.{Bool, true, false, _||_, not}
-use Prim.Native.Nat.{ℕ, zero, suc, _+_, _≤_, _<_}
-use native.Mathlib.Nat.{not-suc-le-zero, le-of-suc-le-suc}
+use Prim.Native.Nat.{ℕ, _+_, _≤_, _<_}
 use native.Mathlib.Omega.{arith}
 use native.Mathlib.Numerals.{add-one}
 use lib.ListN.{length, getD, take, drop, length-map, List·getD-eq-default, List·getD-map, drop-of-length-le}
 use lib.Seq.{drop-cons, take-all}
 use lib.Dec.{eqb, ltb}
 use borrow.Author.Tests.{ltb-false, eqb-true, not-false}
+use Rattle.lines.specs.Lists.{numbersFrom}
 use Rattle.lines.specs.Lines.{pad}
 use Rattle.lines.proofs.Laws.Logic.{by-test, never}
-use Rattle.lines.proofs.Laws.Lists.{getD-any}
+use Rattle.lines.proofs.Laws.Lists.{getD-any, length-numbers, number-at}
 use Rattle.lines.proofs.Laws.Lines.{take-pad, length-pad}
 use Rattle.tape.specs.declared.Record.{Record}
-use Rattle.tape.specs.Tapes.{wordAt, headerBytes, mostRecords, mostMessageWords, recordsSaid, recordsOffset, messagesSaid, messagesOffset, recordsEnd, tapeEnd, refusedb, countOf, messageCountOf, noRecord, recordAt, messageAt, numbersFrom, recordsOf, messagesOf}
+use Rattle.tape.specs.Tapes.{wordAt, headerBytes, mostRecords, mostMessageWords, recordsSaid, recordsOffset, messagesSaid, messagesOffset, recordsEnd, tapeEnd, refusedb, countOf, messageCountOf, noRecord, recordAt, messageAt, recordsOf, messagesOf}
 
 -- past the end there are zeros
 pub word-past : (bytes : List ℕ) (at : ℕ) → length bytes ≤ at → wordAt bytes at ≡ 0
@@ -27,19 +27,7 @@ word-past bytes at h =
     let b3 : getD bytes (at + 3) 0 ≡ 0 = List·getD-eq-default bytes 0 (omega arith) in
     omega (arith, b0, b1, b2, b3)
 
--- ---- numbers in order
-pub length-numbers : (i n : ℕ) → length (numbersFrom i n) ≡ n
-unfolding numbersFrom
-length-numbers i zero = refl
-length-numbers i (suc n) = ap suc (length-numbers (suc i) n)
-
-pub number-at : (i n k : ℕ) → k < n → getD (numbersFrom i n) k 0 ≡ i + k
-unfolding numbersFrom
-number-at i zero k h = absurd (not-suc-le-zero h)
-number-at i (suc n) zero h = omega arith
-number-at i (suc n) (suc k) h = let r = number-at (suc i) n k (le-of-suc-le-suc h) in omega (arith, r)
-
--- what a function makes of the first n numbers
+-- ---- what a function makes of the first n numbers
 module _ {A : Type 0} (f : ℕ → A) (n : ℕ) where
   pub length-made : length (map f (numbersFrom 0 n)) ≡ n
   length-made = length-map (numbersFrom 0 n) f ∙ length-numbers 0 n

@@ -1,11 +1,7 @@
-use mathlib.Core.Path.{_≡_, sym, ap, _∙_}
-use mathlib.Core.List.{_++_}
-use Prim.Native.Nat.{ℕ, _+_, _-_}
-use native.Mathlib.Omega.{arith}
+use mathlib.Core.Path.{sym, _∙_}
 use borrow.Author.Needs.{needs}
-use lib.ListN.{length, getD}
 use lib.ListN.{List·getD-append}
-use lib.Seq.{getD-append-add}
+use Rattle.objects.proofs.Laws.Slots.{getD-behind}
 use Rattle.objects.proofs.queue.word_in.Statement.{statement}
 use Rattle.objects.proofs.queue.word_in.Tie as tie
 
@@ -29,10 +25,7 @@ returns c =
 returns-2 : tie.Need-returns-2
 returns-2 c =
     let a = c .before .before .before .before .args in
-    let e : length (a .front .now) + (a .i - length (a .front .now)) ≡ a .i = omega (arith, c .before .if1 .left) in
-    c .word-at .ensures
-    ∙ sym (getD-append-add (a .front .now) (a .back .now) (a .i - length (a .front .now)) 0)
-    ∙ ap (λ (k : ℕ). getD (a .front .now ++ a .back .now) k 0) e
+    c .word-at .ensures ∙ sym (getD-behind (a .front .now) (a .back .now) (a .i) (c .before .if1 .left))
 
 pub word-in-spec : {M : Type 1} → statement M
 word-in-spec =
