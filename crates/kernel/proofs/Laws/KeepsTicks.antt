@@ -44,7 +44,7 @@ module _ (th : Thread) (timed : timedb th ≡ true) where
   unfolding timedb
   timed-paused = and-left (pausedb th) (not (eqb (th .ticks) 0xFFFFFFFF)) timed
 
-  timed-made : th .created ≡ true
+  pub timed-made : th .created ≡ true
   unfolding pausedb waitsb sleepsb
   timed-made =
       by-test (waitsb th)
@@ -68,12 +68,12 @@ ticks-stand : (n : ℕ) (th : Thread) → standsb (withTicks n th) ≡ standsb t
 unfolding standsb readyb waitsb withTicks
 ticks-stand n th = refl
 
-last-timed : (th : Thread) → lastTickb th ≡ true → timedb th ≡ true
+pub last-timed : (th : Thread) → lastTickb th ≡ true → timedb th ≡ true
 unfolding lastTickb
 last-timed th e = and-left (timedb th) (ltb (th .ticks) 2) e
 
 -- ---- the tick of one thread, and of all
-fit-tick : (k : Kernel) → Keeps.Fit k → (t : ℕ) → Keeps.Fit (tickOne k t)
+pub fit-tick : (k : Kernel) → Keeps.Fit k → (t : ℕ) → Keeps.Fit (tickOne k t)
 fit-tick k F t =
     by-test (lastTickb (threadOf k t))
     (λ e. rw (tick-last k t e) (Keeps.fit-end k F t (timed-made (threadOf k t) (last-timed (threadOf k t) e)) (timeoutStatus (threadOf k t) (heldAt k t)) noWords (timeout-known (threadOf k t) (heldAt k t))))
@@ -88,7 +88,7 @@ fit-tick k F t =
         (Orders.kept-steady (k .scheduler) (F .steady) t (withTicks n (threadOf k t)) small (ticks-stand n (threadOf k t)) (fit-ticks (threadOf k t) f (F .steady .fit t small) n pos))
         (Orders.kept-all (k .scheduler) (F .steady) t (withTicks n (threadOf k t)) small Keeps.seen (ticks-seen n (threadOf k t)))
 
-fit-below : (n : ℕ) (k : Kernel) → Keeps.Fit k → Keeps.Fit (tickBelow n k)
+pub fit-below : (n : ℕ) (k : Kernel) → Keeps.Fit k → Keeps.Fit (tickBelow n k)
 unfolding tickBelow
 fit-below zero k F = F
 fit-below (suc n) k F = fit-tick (tickBelow n k) (fit-below n k F) n

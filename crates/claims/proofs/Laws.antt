@@ -1,0 +1,11 @@
+pub mod Still
+pub mod Quiet
+pub mod Members
+pub mod Ticks
+pub mod Decoded
+pub mod Steps
+pub mod Services
+pub mod Rolls
+pub mod Counts
+pub mod Serving
+pub mod Claims

@@ -1,0 +1,28 @@
+-- Lists of calls, each on the tables that the last handed back.
+use mathlib.Core.List.{List, [], _∷_}
+use Prim.Native.Nat.{ℕ}
+use Rattle.kernel.specs.declared.Kernel.{Kernel}
+use Rattle.kernel.specs.declared.Answer.{Answer}
+use Rattle.kernel.specs.General as General
+
+-- a call as it is made: number, caller, four arguments and the lent message area
+pub record Made : Type 0 where
+  pub number : ℕ
+  pub caller : ℕ
+  pub a : ℕ
+  pub b : ℕ
+  pub c : ℕ
+  pub d : ℕ
+  pub messages : List ℕ
+
+-- the general call
+unfoldable pub answer : Kernel → Made → Answer
+answer k m = General.call k (m .number) (m .caller) (m .a) (m .b) (m .c) (m .d) (m .messages)
+
+-- the tables after a call, and after a list of calls
+unfoldable pub next : Kernel → Made → Kernel
+next k m = answer k m .kernel
+
+unfoldable pub after : Kernel → List Made → Kernel
+after k [] = k
+after k (m ∷ ms) = after (next k m) ms
