@@ -27,17 +27,19 @@ use Rattle.calls.specs.Held.{noWords, oneWord, noHeld, waiting, sending, reques
 use Rattle.calls.specs.Statuses as Statuses
 use Rattle.calls.specs.Refusals
 use Rattle.kernel.specs.declared.Kernel.{Kernel}
-use Rattle.kernel.specs.Tables.{threadOf, runnerOf, heldAt, semaphoreAt, queueAt, groupAt, withScheduler, withHeld, withSemaphore, withQueue, withGroup, withClock, given}
+use Rattle.kernel.specs.Tables.{threadOf, runnerOf, heldAt, semaphoreAt, queueAt, groupAt, poolAt, withPool, withScheduler, withHeld, withSemaphore, withQueue, withGroup, withClock, given}
 use Rattle.kernel.specs.Answers.{Outcome, carried, guarded}
 use Rattle.kernel.specs.Waits.{endWait, endEach, startWait}
 use Rattle.kernel.specs.Threads as Threads
 use Rattle.kernel.specs.Semaphores as Semaphores
 use Rattle.kernel.specs.Queues as Queues
 use Rattle.kernel.specs.Groups as Groups
+use Rattle.kernel.specs.Pools as Pools
 use Rattle.kernel.proofs.Laws.KeepsLines
 use Rattle.objects.specs.declared.semaphore.Semaphore.{Semaphore}
 use Rattle.objects.specs.declared.queue.Queue.{Queue}
 use Rattle.objects.specs.declared.group.Group.{Group}
+use Rattle.objects.specs.declared.pool.Pool.{Pool}
 use Rattle.objects.specs.Queues.{emptyb, roomb}
 use Rattle.objects.specs.Groups.{metb}
 use Rattle.kernel.specs.Clock as Clock
@@ -413,3 +415,43 @@ module _ (p : Place) (waits : 4 < p .state) (k : Kernel) (S : Sound k) where
         (λ m. Still.still-carried p k T _ _ _ _ (group-stored k n _ (Still.still-same p k T)))
         (λ m. let w = KeepsLines.waiter-runs k caller wait runs may (metb (groupAt k n .flags) request option) some m in
         Still.still-carried p k T _ _ _ _ (still-start false 7 n wait _ (w .1) (omega arith) (omega arith) (λ z. absurd (omega (arith, z))) (w .0) (λ z. never z refl))))
+
+  -- ---- pools
+  module _ (n : ℕ) where
+    abbrev pq : Place
+    pq = Pools.poolPlace n
+
+    pub pool-stored : (x : Kernel) (y : Pool) → Still.Still p k x → Still.Still p k (withPool x n y)
+    unfolding withPool heldAt
+    pool-stored x y a = record { steady = a .steady; begins = a .begins; ticks = a .ticks; held = a .held }
+
+    pub pool-create-quiet : (caller block total : ℕ) → Still.Still p k (Pools.poolCreate k caller n block total .kernel)
+    unfolding Pools.poolCreate
+    pool-create-quiet caller block total = same-quiet _ (pool-stored k _ (Still.still-same p k T)) _ _ _
+
+    pub pool-delete-quiet : (pq ≡ p → ⊥) → (caller : ℕ) → Still.Still p k (Pools.poolDelete k caller n .kernel)
+    unfolding Pools.poolDelete
+    pool-delete-quiet away caller = Still.still-call p k T _ _ _ _ _ (λ e. pool-stored _ _ (still-all n pq away (omega arith) _ _))
+
+    pub allocate-quiet : (caller : ℕ) → (eqb caller 2 ≡ true → runnerOf k < 32) → (wait : ℕ) → Still.Still p k (Pools.blockAllocate k caller n wait .kernel)
+    unfolding Pools.blockAllocate Refusals.allocateRefusal
+    allocate-quiet caller runs wait =
+        Still.still-guarded p k T _ _
+        (λ e. let may = unless-none (eqb wait 0 || eqb caller 2) Statuses.waitError (omega arith) (first-none _ _ (second-none _ _ e)) in
+        let some = unless-none (ltb 0 wait || ltb 0 (poolAt k n .free)) Statuses.noMemory (omega arith) (second-none _ _ (second-none _ _ e)) in
+        by-choice (λ (x : Outcome). Still.Still p k (x .kernel)) (ltb 0 (poolAt k n .free)) _ _
+        (λ q. Still.still-carried p k T _ _ _ _ (pool-stored k _ (Still.still-same p k T)))
+        (λ q. let w = KeepsLines.waiter-runs k caller wait runs may (ltb 0 (poolAt k n .free)) some q in
+        Still.still-carried p k T _ _ _ _ (still-start false 8 n wait waiting (w .1) (omega arith) (omega arith) (λ z. absurd (omega (arith, z))) (w .0) (λ z. never z refl))))
+
+    pub release-quiet : (pq ≡ p → ⊥) → (block : ℕ) → Still.Still p k (Pools.blockRelease k n block .kernel)
+    unfolding Pools.blockRelease
+    release-quiet away block =
+        Still.still-guarded p k T _ _
+        (λ e. by-choice (λ (x : Outcome). Still.Still p k (x .kernel)) (ltb (firstAt (k .scheduler) pq) 32) _ _
+        (λ f. Still.still-carried p k T _ _ _ _ (still-first pq away f (made-first n pq f) _ _))
+        (λ f. Still.still-carried p k T _ _ _ _ (pool-stored k _ (Still.still-same p k T))))
+
+    pub pool-prioritize-quiet : (pq ≡ p → ⊥) → Still.Still p k (Pools.poolPrioritize k n .kernel)
+    unfolding Pools.poolPrioritize
+    pool-prioritize-quiet away = Still.still-call p k T _ _ _ _ _ (λ e. Still.still-prioritised p k T pq (λ z. away (sym z)))

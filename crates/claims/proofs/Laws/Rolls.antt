@@ -21,6 +21,8 @@ use Rattle.scheduler.proofs.Laws.States
 use Rattle.objects.specs.declared.semaphore.Semaphore.{Semaphore}
 use Rattle.objects.specs.declared.queue.Queue.{Queue}
 use Rattle.objects.specs.Semaphores.{noSemaphore}
+use Rattle.objects.specs.declared.pool.Pool.{Pool}
+use Rattle.objects.specs.Pools.{noPool}
 use Rattle.objects.specs.Queues.{noQueue, emptyb, fullb, roomb}
 use Rattle.objects.proofs.Laws.Queues as Records
 use Rattle.calls.specs.declared.held.Held.{Held}
@@ -28,10 +30,10 @@ use Rattle.calls.specs.declared.call.Decoded.{Decoded}
 use Rattle.calls.specs.declared.call.Decoded.the-variants.{Known, Unknown}
 use Rattle.calls.specs.Calls.{decoded}
 use Rattle.calls.specs.Statuses as Statuses
-use Rattle.waiting.specs.Fit.{blankFrom, waitsOnb, semaphoreWaitb, queueWaitb}
+use Rattle.waiting.specs.Fit.{blankFrom, waitsOnb, semaphoreWaitb, queueWaitb, poolWaitb}
 use Rattle.kernel.specs.declared.Kernel.{Kernel}
 use Rattle.kernel.specs.declared.Answer.{Answer}
-use Rattle.kernel.specs.Tables.{threadOf, runnerOf, heldAt, semaphoreAt, queueAt}
+use Rattle.kernel.specs.Tables.{threadOf, runnerOf, heldAt, semaphoreAt, queueAt, poolAt}
 use Rattle.kernel.specs.Answers.{Outcome, answerOf, refused}
 use Rattle.kernel.specs.General as General
 use Rattle.kernel.specs.Queues as Queues
@@ -86,6 +88,23 @@ module _ (p : Place) (k : Kernel) (S : Sound k) (t : ℕ) (here : 0 < count t (l
   queue-waits z =
       ap (λ (n : ℕ). queueWaitb (heldAt k t) (queueAt k n)) (sym (object-is 5 z (omega arith)))
       ∙ implies-out (waitsOnb 5 (threadOf k t)) (queueWaitb (heldAt k t) (queueAt k (threadOf k t .object))) (Keeps.asked k (threadOf k t) (heldAt k t) (F .waits t small) .0) (Keeps.in-state 5 (threadOf k t) made (state-is ∙ z))
+
+  pub pool-waits : p .state ≡ 8 → poolWaitb (poolAt k (p .number)) ≡ true
+  pool-waits z =
+      ap (λ (n : ℕ). poolWaitb (poolAt k n)) (sym (object-is 8 z (omega arith)))
+      ∙ implies-out (waitsOnb 8 (threadOf k t)) (poolWaitb (poolAt k (threadOf k t .object))) (Keeps.asked k (threadOf k t) (heldAt k t) (F .waits t small) .3) (Keeps.in-state 8 (threadOf k t) made (state-is ∙ z))
+
+  pub pool-made : p .state ≡ 8 → poolAt k (p .number) .created ≡ true
+  unfolding poolWaitb
+  pool-made z = and-left (poolAt k (p .number) .created) _ (pool-waits z)
+
+  pub pool-low : p .state ≡ 8 → p .number < 4
+  unfolding poolAt noPool
+  pool-low z =
+      by-test (ltb (p .number) 4)
+      (λ w. ltb-true (p .number) 4 w)
+      (λ w. never (pool-made z)
+      (ap (λ (x : Pool). x .created) (List·getD-eq-default (k .pools) noPool (let o = ltb-false (p .number) 4 w in let e = F .poolsSized in omega (arith, o, e)))))
 
   pub semaphore-low : p .state ≡ 6 → p .number < 16
   unfolding semaphoreWaitb semaphoreAt noSemaphore
@@ -165,7 +184,7 @@ module _ (p : Place) (o : objectb p ≡ true) (t : ℕ) (k : Kernel) (m : Made) 
   record-ok caller (Known call) messages i calm =
       by-choice Ok (eqb caller 2 && not (ltb (runnerOf k) 32)) (refused k Statuses.nobodyRuns) (General.service k caller call messages)
       (λ z. Steps.refused-ok p waits k S m e es (L .rolls) Statuses.nobodyRuns refl)
-      (λ z. Services.service-ok p waits k S m e es (L .rolls) (object-waits p o .1) (semaphore-low p k S t here) (queue-low p k S t here) (empty-at p k S t here (L .receives)) (room-at p k S t here (L .receives))
+      (λ z. Services.service-ok p waits k S m e es (L .rolls) (object-waits p o .1) (semaphore-low p k S t here) (queue-low p k S t here) (pool-low p k S t here) (empty-at p k S t here (L .receives)) (room-at p k S t here (L .receives))
       caller (runner-there caller z) call messages i
       (λ u w. calm u (ap (λ (b : Bool). (if b then refused k Statuses.nobodyRuns else General.service k caller call messages) .status) z ∙ w)))
   record-ok caller Unknown messages i calm = Steps.refused-ok p waits k S m e es (L .rolls) Statuses.unknownCall refl

@@ -31,6 +31,7 @@ use Rattle.kernel.specs.Clock as Clock
 use Rattle.kernel.specs.Semaphores as Semaphores
 use Rattle.kernel.specs.Queues as Queues
 use Rattle.kernel.specs.Groups as Groups
+use Rattle.kernel.specs.Pools as Pools
 use Rattle.kernel.specs.General.{service}
 use Rattle.kernel.specs.Sound.{Sound}
 use Rattle.kernel.proofs.Laws.Answers.{first-none, second-none, unless-none}
@@ -57,6 +58,13 @@ pick5 true false false g = g
 pick5 false false true g = g
 pick5 false false false g = g
 
+pick8 : (x y z : Bool) → ((x && false) || (y && false) || (z && true)) ≡ true → z ≡ true
+pick8 x y true g = refl
+pick8 true true false g = g
+pick8 true false false g = g
+pick8 false true false g = g
+pick8 false false false g = g
+
 -- giving and upsetting by place, argument and number
 abbrev givesAt : Place → ℕ → ℕ → Bool
 givesAt p a n = eqb a (p .number) && ((eqb (p .state) 6 && (eqb n 19 || eqb n 20)) || (eqb (p .state) 5 && (eqb n 24 || eqb n 25)) || (eqb (p .state) 8 && eqb n 36))
@@ -74,7 +82,7 @@ upsets-at p m = refl
 
 -- the object of a roll: a semaphore, or a queue on which receivers wait
 module _ (p : Place) (waits : 4 < p .state) (k : Kernel) (S : Sound k) (m : Made) (e : Entry) (es : List Entry) (R : Members.Rolls p k (e ∷ es))
-    (flags : p .state ≡ 7 → ⊥) (low6 : p .state ≡ 6 → p .number < 16) (low5 : p .state ≡ 5 → p .number < 8)
+    (flags : p .state ≡ 7 → ⊥) (low6 : p .state ≡ 6 → p .number < 16) (low5 : p .state ≡ 5 → p .number < 8) (low8 : p .state ≡ 8 → p .number < 4)
     (empty : (n : ℕ) → Queues.queuePlace n ≡ p → emptyb (queueAt k n) ≡ true) (room : (n : ℕ) → Queues.queuePlace n ≡ p → roomb (queueAt k n) ≡ true) where
   abbrev T : Steady (k .scheduler)
   T = S .scheduler .steady
@@ -110,6 +118,17 @@ module _ (p : Place) (waits : 4 < p .state) (k : Kernel) (S : Sound k) (m : Made
   upset-queue j t q n i z =
       let st : p .state ≡ 5 = sym (ap (λ (w : Place). w .state) z) in
       upsets-at p m ∙ rw (n, eq-eqb (m .a) (p .number) (queue-here q i z), st, t) refl
+
+  pool-here : (l : ℕ) → l ≡ min (m .a) 4 → Pools.poolPlace l ≡ p → m .a ≡ p .number
+  pool-here l i z = let w = low8 (sym (ap (λ (q : Place). q .state) z)) in let y = ap (λ (q : Place). q .number) z in omega (arith, w, y, i)
+
+  pool-there : (l : ℕ) → l ≡ min (m .a) 4 → m .a ≡ p .number → p .state ≡ 8 → Pools.poolPlace l ≡ p
+  pool-there l i a z = let w = low8 z in let y : l ≡ p .number = omega (arith, w, i, a) in λ j. record { state = sym z j; number = y j }
+
+  pub upset-pool : (j : ℕ) → (eqb j 34 || eqb j 37) ≡ true → (l : ℕ) → m .number ≡ j → l ≡ min (m .a) 4 → Pools.poolPlace l ≡ p → upsetsb p m ≡ true
+  upset-pool j t l n i z =
+      let st : p .state ≡ 8 = sym (ap (λ (w : Place). w .state) z) in
+      upsets-at p m ∙ rw (n, eq-eqb (m .a) (p .number) (pool-here l i z), st, t) refl
 
   -- a prioritise or delete: not here, or refused
   guarded-status : (reason : ℕ) (o : Outcome) → o .status ≡ 0 → reason ≡ 0 → guarded k reason o .status ≡ 0
@@ -231,6 +250,28 @@ module _ (p : Place) (waits : 4 < p .state) (k : Kernel) (S : Sound k) (m : Made
       gives-here z =
           let st : p .state ≡ 5 = sym (ap (λ (w : Place). w .state) z) in
           gives-at p m ∙ rw (n, eq-eqb (m .a) (p .number) (queue-here q i z), st, t) refl
+
+  pub release-ok : (l block : ℕ) → m .number ≡ 36 → l ≡ min (m .a) 4 → Ok (Pools.blockRelease k l block)
+  unfolding Pools.blockRelease
+  release-ok l block n i =
+      by-test (givesb p m)
+      (λ g. let z = pool-there l i (Steps.gives-on p m g) (state8 g) in
+      Steps.guarded-ok p waits k S m e es R _ _
+      (λ w. by-choice Ok (ltb (firstAt (k .scheduler) (Pools.poolPlace l)) 32) _ _
+      (λ f. Steps.served-ok p waits k S m e es R (Pools.poolPlace l) z g _ _)
+      (λ f. never (lt-ltb _ 32 (first-low (Pools.poolPlace l) z)) f)))
+      (λ g. Steps.still-ok p waits k S m e es R (Pools.blockRelease k l block) (Quiet.release-quiet p waits k S l (λ z. never (gives-here z) g) block)
+      (Steps.roll-same p m (Pools.blockRelease k l block .status) (e ∷ es) g (ap (λ (x : ℕ). eqb x 5) n) (ap (λ (x : ℕ). eqb x 10) n) (ap (λ (x : ℕ). eqb x 15) n)))
+    where
+      state8 : givesb p m ≡ true → p .state ≡ 8
+      state8 g =
+          let h : givesAt p (m .a) 36 ≡ true = sym (gives-at p m ∙ ap (givesAt p (m .a)) n) ∙ g in
+          eqb-true (p .state) 8 (pick8 (eqb (p .state) 6) (eqb (p .state) 5) (eqb (p .state) 8) (and-right (eqb (m .a) (p .number)) ((eqb (p .state) 6 && false) || (eqb (p .state) 5 && false) || (eqb (p .state) 8 && true)) h))
+
+      gives-here : Pools.poolPlace l ≡ p → givesb p m ≡ true
+      gives-here z =
+          let st : p .state ≡ 8 = sym (ap (λ (w : Place). w .state) z) in
+          gives-at p m ∙ rw (n, eq-eqb (m .a) (p .number) (pool-here l i z), st) refl
 
   -- ---- naming
   same-number : (t : ℕ) → t ≡ min (m .a) 32 → threadOf k t .created ≡ true → m .a ≡ t
