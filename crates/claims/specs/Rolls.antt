@@ -1,8 +1,8 @@
 -- Demand 3, first come, first served, counted: "Demand 3's roll is fed the calls and their statuses."
 use mathlib.Core.Path.{_≡_}
-use mathlib.Core.List.{List, [], _∷_, _++_, map}
+use mathlib.Core.List.{List, [], _∷_, _++_}
 use mathlib.Core.Bool.{Bool, true, false, _&&_, _||_}
-use Prim.Native.Nat.{ℕ, _+_, _-_, _<_, _≤_}
+use Prim.Native.Nat.{ℕ, _+_, _-_, _<_}
 use lib.ListN.{length}
 use lib.Dec.{eqb, ltb}
 use Rattle.lines.specs.Logic.{if_then_else_, oneIf}
@@ -17,7 +17,6 @@ use Rattle.waiting.specs.Ticks.{forever}
 use Rattle.kernel.specs.declared.Kernel.{Kernel}
 use Rattle.kernel.specs.declared.Answer.{Answer}
 use Rattle.kernel.specs.Tables.{threadOf, heldAt, queueAt}
-use Rattle.kernel.specs.Sound.{Sound}
 use Rattle.claims.specs.Lists.{Made, answer, next, after}
 
 -- ---- the object: the place where its waiters stand tells its kind and number

@@ -1,15 +1,13 @@
 -- Demand 3.
-use mathlib.Core.Path.{_≡_, refl, sym, ap, _∙_, subst}
+use mathlib.Core.Path.{_≡_, refl, sym, ap, _∙_}
 use mathlib.Core.List.{List, [], _∷_, _++_}
-use mathlib.Core.Bool.{Bool, true, false, _&&_}
+use mathlib.Core.Bool.{true, _&&_}
 use Prim.Native.Nat.{ℕ, zero, suc, _+_, _-_, _<_, _≤_}
 use native.Mathlib.Omega.{arith}
 use lib.ListN.{length, drop, getD, length-append, length-drop}
-use lib.Dec.{ltb}
 use borrow.Author.Tests.{lt-ltb}
 use Rattle.lines.specs.Logic.{oneIf}
 use Rattle.lines.specs.Lists.{count}
-use Rattle.lines.proofs.Laws.Logic.{one-at-most}
 use Rattle.lines.proofs.Laws.Lists
 use Rattle.scheduler.specs.declared.thread.Place.{Place}
 use Rattle.calls.specs.declared.held.Held.{Held}
@@ -19,7 +17,6 @@ use Rattle.kernel.specs.Tables.{heldAt}
 use Rattle.kernel.specs.Sound.{Sound}
 use Rattle.claims.specs.Lists.{Made, answer, next, after}
 use Rattle.claims.specs.Rolls.{Entry, names, rollOf, givesb, doneb, rolled, rollAfter, lastsb, objectb, Waits, startRoll, Calm, gave, NoneServed, Undisturbed, Served, Claim}
-use Rattle.claims.proofs.Laws.Members
 use Rattle.claims.proofs.Laws.Rolls
 use Rattle.claims.proofs.Laws.Counts
 use Rattle.claims.proofs.Laws.Serving

@@ -1,19 +1,19 @@
 -- Counting: a giving call takes one off the roll, and nothing puts anybody on it.
 use mathlib.Core.Path.{_≡_, refl, sym, ap, _∙_}
-use mathlib.Core.List.{List, [], _∷_, _++_}
-use mathlib.Core.Bool.{Bool, true, false, _&&_, _||_}
-use Prim.Native.Nat.{ℕ, zero, suc, _+_, _-_, _<_, _≤_}
+use mathlib.Core.List.{List, [], _∷_}
+use mathlib.Core.Bool.{true, false, _&&_, _||_}
+use Prim.Native.Nat.{ℕ, zero, suc, _+_, _-_, _≤_}
 use native.Mathlib.Omega.{arith}
 use lib.ListN.{length, drop, length-append}
 use lib.Dec.{eqb, ltb}
-use borrow.Author.Tests.{le-ltb}
-use Rattle.lines.specs.Logic.{if_then_else_, oneIf}
+use Rattle.lines.specs.Logic.{oneIf}
 use Rattle.lines.specs.Lists.{count}
-use Rattle.lines.proofs.Laws.Logic.{by-test, by-choice, never, and-in}
+use Rattle.lines.proofs.Laws.Logic.{by-test, by-choice}
 use Rattle.scheduler.specs.declared.thread.Place.{Place}
 use Rattle.kernel.specs.declared.Kernel.{Kernel}
 use Rattle.kernel.specs.declared.Answer.{Answer}
 use Rattle.claims.specs.Lists.{Made, answer, next}
+use Rattle.claims.proofs.Laws.Still
 use Rattle.claims.specs.Rolls.{Entry, names, rest, each, unnamed, ticked, givesb, doneb, struck, rolled, rollAfter, lastsb, gave, Undisturbed}
 
 -- ---- lengths
@@ -56,11 +56,7 @@ length-rolled p m x r =
     (λ d. by-test (givesb p m)
     (λ g. rw (d, g, struck-given p m r g) (length-rest r))
     (λ g. rw (d, g) (let l = struck-most p m r in let q : length (struck p m r) ≤ length r - 0 = omega (arith, l) in q)))
-    (λ d. rw (d, and-no (givesb p m)) (let q : length r ≤ length r - 0 = omega arith in q))
-  where
-    and-no : (b : Bool) → (b && false) ≡ false
-    and-no true = refl
-    and-no false = refl
+    (λ d. rw (d, Still.and-no (givesb p m)) (let q : length r ≤ length r - 0 = omega arith in q))
 
 length-after : (p : Place) (ms : List Made) (k : Kernel) (r : List Entry) → length (rollAfter p k r ms) ≤ length r - gave p k ms
 unfolding rollAfter gave

@@ -1,12 +1,11 @@
 -- Which calls leave an object's line still: all but those that give there, end or name a member's wait, tick, or upset the line.
 use mathlib.Core.Path.{_≡_, refl, sym, ap, _∙_}
-use mathlib.Core.List.{List, [], _∷_}
+use mathlib.Core.List.{List, []}
 use mathlib.Core.Bool.{Bool, true, false, _&&_, _||_, not}
 use Prim.Native.Nat.{ℕ, _<_, _≤_, min}
 use native.Mathlib.Omega.{arith}
-use lib.Bits.{bitOr}
 use lib.Dec.{eqb, ltb, leb}
-use borrow.Author.Tests.{eqb-true, eqb-false, ltb-true, ltb-false, leb-true, ne-eqb, not-true}
+use borrow.Author.Tests.{eqb-true, eqb-false, ltb-true, leb-true, not-true}
 use Rattle.lines.specs.Logic.{if_then_else_, oneIf}
 use Rattle.lines.specs.Lists.{count, filter}
 use Rattle.lines.proofs.Laws.Logic.{by-test, by-choice, never, and-left, and-right, or-rest}
@@ -14,20 +13,20 @@ use Rattle.lines.proofs.Laws.Lists
 use Rattle.scheduler.specs.declared.thread.Thread.{Thread}
 use Rattle.scheduler.specs.declared.thread.Place.{Place}
 use Rattle.scheduler.specs.Threads.{readyb, waitsb, pausedb, standsb, numberOf, placedb, inState, atRest, uncreated, created, withSuspension}
-use Rattle.scheduler.specs.Orders.{threadAt, lineAt, firstAt, prioritisedAt, moved, withThread}
+use Rattle.scheduler.specs.Orders.{threadAt, lineAt, firstAt, moved, withThread}
 use Rattle.scheduler.specs.Choice.{relinquished}
 use Rattle.scheduler.specs.Changes.{withLevels, priorityChanged, preemptionChanged}
 use Rattle.scheduler.specs.Sound.{fitb, Steady}
-use Rattle.scheduler.proofs.Laws.Threads.{other-place, fit-levels, levels-stands, levels-placed, same-levels-placed, fit-low, fit-threshold}
+use Rattle.scheduler.proofs.Laws.Threads.{other-place, fit-levels, levels-stands, levels-placed, same-levels-placed, fit-low}
 use Rattle.scheduler.proofs.Laws.Orders
 use Rattle.scheduler.proofs.Laws.States
 use Rattle.scheduler.proofs.Laws.Fairness.{first-placed}
 use Rattle.calls.specs.declared.held.Held.{Held}
-use Rattle.calls.specs.Held.{noWords, oneWord, noHeld, waiting, sending, requesting}
+use Rattle.calls.specs.Held.{noHeld, waiting}
 use Rattle.calls.specs.Statuses as Statuses
 use Rattle.calls.specs.Refusals
 use Rattle.kernel.specs.declared.Kernel.{Kernel}
-use Rattle.kernel.specs.Tables.{threadOf, runnerOf, heldAt, semaphoreAt, queueAt, groupAt, poolAt, withPool, withScheduler, withHeld, withSemaphore, withQueue, withGroup, withClock, given}
+use Rattle.kernel.specs.Tables.{threadOf, runnerOf, heldAt, semaphoreAt, queueAt, groupAt, poolAt, withPool, withScheduler, withSemaphore, withQueue, withGroup, withClock, given}
 use Rattle.kernel.specs.Answers.{Outcome, carried, guarded}
 use Rattle.kernel.specs.Waits.{endWait, endEach, startWait}
 use Rattle.kernel.specs.Threads as Threads
@@ -47,11 +46,6 @@ use Rattle.kernel.specs.Sound.{Sound}
 use Rattle.kernel.proofs.Laws.Answers.{first-none, second-none, unless-none}
 use Rattle.kernel.proofs.Laws.KeepsThreads.{runner-made}
 use Rattle.claims.proofs.Laws.Still
-
-filter-all : (xs : List ℕ) → filter (λ t. true) xs ≡ xs
-unfolding filter
-filter-all [] = refl
-filter-all (x ∷ xs) = ap {B = List ℕ} (λ l. x ∷ l) (filter-all xs)
 
 -- who is placed at p and waits in a state on an object: that is p
 pub place-of : (p : Place) (state n : ℕ) (th : Thread) → placedb p th ≡ true → th .state ≡ state → numberOf th ≡ n → record { state = state; number = n } ≡ p
@@ -281,7 +275,7 @@ module _ (p : Place) (waits : 4 < p .state) (k : Kernel) (S : Sound k) where
     made-first q f = Still.placed-made q (threadOf k (firstAt (k .scheduler) q)) (first-placed (k .scheduler) q (ltb-true _ 32 f))
 
     all-some : (q : Place) → filter (λ t. true) (lineAt (k .scheduler) q) ≡ lineAt (k .scheduler) q
-    all-some q = filter-all (lineAt (k .scheduler) q)
+    all-some q = sym (Still.all-kept (λ t. true) (lineAt (k .scheduler) q) (λ u. refl))
 
     -- whole line of another object
     pub still-all : (q : Place) → (q ≡ p → ⊥) → 4 < q .state → (status : ℕ) (words : List ℕ) → Still.Still p k (endEach k status words (lineAt (k .scheduler) q))

@@ -2,20 +2,18 @@
 use mathlib.Core.Path.{_≡_, refl, sym, ap, _∙_, subst}
 use mathlib.Core.List.{List, [], _∷_, _++_}
 use mathlib.Core.Bool.{Bool, true, false, _&&_, _||_, not}
-use Prim.Native.Nat.{ℕ, _+_, _<_, _≤_}
+use Prim.Native.Nat.{ℕ, _+_, _<_}
 use native.Mathlib.Omega.{arith}
-use lib.ListN.{length, getD, List·getD-eq-default}
+use lib.ListN.{List·getD-eq-default}
 use lib.Dec.{eqb, ltb}
-use borrow.Author.Tests.{eqb-true, eq-eqb, ltb-true, ltb-false, lt-ltb, not-true, not-false}
+use borrow.Author.Tests.{eqb-true, eq-eqb, ltb-true, ltb-false}
 use Rattle.lines.specs.Logic.{if_then_else_, oneIf}
-use Rattle.lines.specs.Lists.{count, Begins}
+use Rattle.lines.specs.Lists.{count}
 use Rattle.lines.proofs.Laws.Logic.{by-test, by-choice, never, and-left, and-right, and-in, or-rest, implies-out}
 use Rattle.lines.proofs.Laws.Lists
-use Rattle.scheduler.specs.declared.thread.Thread.{Thread}
 use Rattle.scheduler.specs.declared.thread.Place.{Place}
 use Rattle.scheduler.specs.Threads.{standsb, numberOf, placedb}
 use Rattle.scheduler.specs.Orders.{lineAt}
-use Rattle.scheduler.specs.Sound.{Steady}
 use Rattle.scheduler.proofs.Laws.Orders
 use Rattle.scheduler.proofs.Laws.States
 use Rattle.objects.specs.declared.semaphore.Semaphore.{Semaphore}
@@ -37,12 +35,12 @@ use Rattle.kernel.specs.Tables.{threadOf, runnerOf, heldAt, semaphoreAt, queueA
 use Rattle.kernel.specs.Answers.{Outcome, answerOf, refused}
 use Rattle.kernel.specs.General as General
 use Rattle.kernel.specs.Queues as Queues
-use Rattle.kernel.specs.Sound.{soundb, Sound}
+use Rattle.kernel.specs.Sound.{Sound}
 use Rattle.kernel.proofs.Laws.Keeps
 use Rattle.kernel.proofs.Laws.Sound.{passes}
-use Rattle.kernel.proofs.Laws.Claims.{claims}
+use Rattle.kernel.proofs.Laws.Claims.{runner-there, claims}
 use Rattle.claims.specs.Lists.{Made, answer, next}
-use Rattle.claims.specs.Rolls.{Entry, names, rollOf, givesb, takesb, upsetsb, doneb, struck, rolled, lastsb, objectb, Waits, startRoll, Calm, Kept, KeptAll}
+use Rattle.claims.specs.Rolls.{Entry, names, rollOf, upsetsb, doneb, struck, rolled, lastsb, objectb, Waits, startRoll, Calm, Kept, KeptAll}
 use Rattle.claims.proofs.Laws.Still
 use Rattle.claims.proofs.Laws.Members
 use Rattle.claims.proofs.Laws.Decoded.{Is, decoded-is}
@@ -176,16 +174,13 @@ module _ (p : Place) (o : objectb p ≡ true) (t : ℕ) (k : Kernel) (m : Made) 
   abbrev Ok : Outcome → Type 0
   Ok = Steps.Ok p waits k S m e es (L .rolls)
 
-  runner-there : (caller : ℕ) → (eqb caller 2 && not (ltb (runnerOf k) 32)) ≡ false → eqb caller 2 ≡ true → runnerOf k < 32
-  runner-there caller z c = ltb-true (runnerOf k) 32 (not-false (ltb (runnerOf k) 32) (sym (ap (λ (b : Bool). b && not (ltb (runnerOf k) 32)) c) ∙ z))
-
   record-ok : (caller : ℕ) (d : Decoded) (messages : List ℕ) → Is (m .number) (m .a) d → (upsetsb p m ≡ true → General.byRecord k caller d messages .status ≡ 0 → ⊥) → Ok (General.byRecord k caller d messages)
   unfolding General.byRecord General.byCaller
   record-ok caller (Known call) messages i calm =
       by-choice Ok (eqb caller 2 && not (ltb (runnerOf k) 32)) (refused k Statuses.nobodyRuns) (General.service k caller call messages)
       (λ z. Steps.refused-ok p waits k S m e es (L .rolls) Statuses.nobodyRuns refl)
       (λ z. Services.service-ok p waits k S m e es (L .rolls) (object-waits p o .1) (semaphore-low p k S t here) (queue-low p k S t here) (pool-low p k S t here) (empty-at p k S t here (L .receives)) (room-at p k S t here (L .receives))
-      caller (runner-there caller z) call messages i
+      caller (runner-there k caller z) call messages i
       (λ u w. calm u (ap (λ (b : Bool). (if b then refused k Statuses.nobodyRuns else General.service k caller call messages) .status) z ∙ w)))
   record-ok caller Unknown messages i calm = Steps.refused-ok p waits k S m e es (L .rolls) Statuses.unknownCall refl
 

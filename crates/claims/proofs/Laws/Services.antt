@@ -1,14 +1,14 @@
 -- Every call and the roll.
-use mathlib.Core.Path.{_≡_, refl, sym, ap, _∙_, subst}
-use mathlib.Core.List.{List, [], _∷_}
-use mathlib.Core.Bool.{Bool, true, false, _&&_, _||_, not}
+use mathlib.Core.Path.{_≡_, refl, sym, ap, _∙_}
+use mathlib.Core.List.{List, _∷_}
+use mathlib.Core.Bool.{Bool, true, false, _&&_, _||_}
 use Prim.Native.Nat.{ℕ, _<_, min}
 use native.Mathlib.Omega.{arith}
 use lib.Dec.{eqb, ltb}
-use borrow.Author.Tests.{eqb-true, eqb-false, eq-eqb, ne-eqb, lt-ltb, ltb-true, not-true}
+use borrow.Author.Tests.{eqb-true, eq-eqb, lt-ltb}
 use Rattle.lines.specs.Logic.{if_then_else_}
 use Rattle.lines.specs.Lists.{count}
-use Rattle.lines.proofs.Laws.Logic.{by-test, by-choice, never, and-left, and-right, and-in, or-rest}
+use Rattle.lines.proofs.Laws.Logic.{by-test, by-choice, never, and-right}
 use Rattle.scheduler.specs.declared.thread.Thread.{Thread}
 use Rattle.scheduler.specs.declared.thread.Place.{Place}
 use Rattle.scheduler.specs.Threads.{atRest, inState, placedb}
@@ -17,15 +17,13 @@ use Rattle.scheduler.specs.Sound.{Steady}
 use Rattle.scheduler.proofs.Laws.States
 use Rattle.objects.specs.Queues.{emptyb, roomb}
 use Rattle.calls.specs.Held.{noHeld, noWords}
-use Rattle.calls.specs.Messages.{messageIn}
 use Rattle.calls.specs.Statuses as Statuses
 use Rattle.calls.specs.Refusals
 use Rattle.calls.specs.declared.call.Call.{Call}
 use Rattle.calls.specs.declared.call.Call.the-variants.{ThreadCreate, ThreadDelete, ThreadResume, ThreadSuspend, ThreadTerminate, ThreadReset, ThreadFinish, ThreadRelinquish, ThreadSleep, ThreadWaitAbort, ThreadPriorityChange, ThreadPreemptionChange, TimeGet, TimeSet, Tick, SemaphoreCreate, SemaphoreDelete, SemaphoreGet, SemaphorePut, SemaphoreCeilingPut, SemaphorePrioritize, QueueCreate, QueueDelete, QueueSend, QueueFrontSend, QueueReceive, QueueFlush, QueuePrioritize, EventFlagsCreate, EventFlagsDelete, EventFlagsSet, EventFlagsGet, ThreadStateRead, ThreadWordsRead}
 use Rattle.kernel.specs.declared.Kernel.{Kernel}
-use Rattle.kernel.specs.Tables.{threadOf, runnerOf, semaphoreAt, queueAt, given}
+use Rattle.kernel.specs.Tables.{threadOf, runnerOf, semaphoreAt, queueAt}
 use Rattle.kernel.specs.Answers.{Outcome, refused, carried, guarded}
-use Rattle.kernel.specs.Waits.{endWait, ticked}
 use Rattle.kernel.specs.Threads as Threads
 use Rattle.kernel.specs.Clock as Clock
 use Rattle.kernel.specs.Semaphores as Semaphores
@@ -34,7 +32,7 @@ use Rattle.kernel.specs.Groups as Groups
 use Rattle.kernel.specs.Pools as Pools
 use Rattle.kernel.specs.General.{service}
 use Rattle.kernel.specs.Sound.{Sound}
-use Rattle.kernel.proofs.Laws.Answers.{first-none, second-none, unless-none}
+use Rattle.kernel.proofs.Laws.Answers.{first-none, unless-none}
 use Rattle.claims.specs.Lists.{Made}
 use Rattle.claims.specs.Rolls.{Entry, givesb, upsetsb, onb}
 use Rattle.claims.proofs.Laws.Still
@@ -152,40 +150,13 @@ module _ (p : Place) (waits : 4 < p .state) (k : Kernel) (S : Sound k) (m : Made
       (λ f. Steps.served-ok p waits k S m e es R (Semaphores.semaphorePlace s) z g _ _)
       (λ f. never (lt-ltb _ 32 (first-low (Semaphores.semaphorePlace s) z)) f)
 
-  put-ok : (j : ℕ) → (eqb j 19 || eqb j 20) ≡ true → (not (eqb j 5) && not (eqb j 10) && not (eqb j 15) && not (eqb j 24) && not (eqb j 25) && not (eqb j 36)) ≡ true
+  put-ok : (j : ℕ) → (eqb j 19 || eqb j 20) ≡ true → eqb j 24 ≡ false → eqb j 25 ≡ false → eqb j 36 ≡ false → eqb j 5 ≡ false → eqb j 10 ≡ false → eqb j 15 ≡ false
       → (s : ℕ) → m .number ≡ j → s ≡ min (m .a) 16 → (reason : ℕ) → ((Semaphores.semaphorePlace s ≡ p → ⊥) → Still.Still p k (guarded k reason (Semaphores.putOn k s) .kernel)) → Ok (guarded k reason (Semaphores.putOn k s))
-  put-ok j t d s n i reason away =
+  put-ok j t e24 e25 e36 d5 d10 d15 s n i reason away =
       by-test (givesb p m)
       (λ g. Steps.guarded-ok p waits k S m e es R reason _ (λ w. put-served s (semaphore-there s i (Steps.gives-on p m g) (state6 g)) g))
       (λ g. Steps.still-ok p waits k S m e es R (guarded k reason (Semaphores.putOn k s)) (away (λ z. never (gives-here z) g)) (Steps.roll-same p m (guarded k reason (Semaphores.putOn k s) .status) (e ∷ es) g (ap (λ (x : ℕ). eqb x 5) n ∙ d5) (ap (λ (x : ℕ). eqb x 10) n ∙ d10) (ap (λ (x : ℕ). eqb x 15) n ∙ d15)))
     where
-      e36 : eqb j 36 ≡ false
-      e36 = not-true (eqb j 36) (and-right (not (eqb j 5) && not (eqb j 10) && not (eqb j 15) && not (eqb j 24) && not (eqb j 25)) (not (eqb j 36)) d)
-
-      r25 : (not (eqb j 5) && not (eqb j 10) && not (eqb j 15) && not (eqb j 24) && not (eqb j 25)) ≡ true
-      r25 = and-left (not (eqb j 5) && not (eqb j 10) && not (eqb j 15) && not (eqb j 24) && not (eqb j 25)) (not (eqb j 36)) d
-
-      e25 : eqb j 25 ≡ false
-      e25 = not-true (eqb j 25) (and-right (not (eqb j 5) && not (eqb j 10) && not (eqb j 15) && not (eqb j 24)) (not (eqb j 25)) r25)
-
-      r24 : (not (eqb j 5) && not (eqb j 10) && not (eqb j 15) && not (eqb j 24)) ≡ true
-      r24 = and-left (not (eqb j 5) && not (eqb j 10) && not (eqb j 15) && not (eqb j 24)) (not (eqb j 25)) r25
-
-      e24 : eqb j 24 ≡ false
-      e24 = not-true (eqb j 24) (and-right (not (eqb j 5) && not (eqb j 10) && not (eqb j 15)) (not (eqb j 24)) r24)
-
-      r15 : (not (eqb j 5) && not (eqb j 10) && not (eqb j 15)) ≡ true
-      r15 = and-left (not (eqb j 5) && not (eqb j 10) && not (eqb j 15)) (not (eqb j 24)) r24
-
-      d15 : eqb j 15 ≡ false
-      d15 = not-true (eqb j 15) (and-right (not (eqb j 5) && not (eqb j 10)) (not (eqb j 15)) r15)
-
-      d10 : eqb j 10 ≡ false
-      d10 = not-true (eqb j 10) (and-right (not (eqb j 5)) (not (eqb j 10)) (and-left (not (eqb j 5) && not (eqb j 10)) (not (eqb j 15)) r15))
-
-      d5 : eqb j 5 ≡ false
-      d5 = not-true (eqb j 5) (and-left (not (eqb j 5)) (not (eqb j 10)) (and-left (not (eqb j 5) && not (eqb j 10)) (not (eqb j 15)) r15))
-
       state6 : givesb p m ≡ true → p .state ≡ 6
       state6 g =
           let h : givesAt p (m .a) j ≡ true = sym (gives-at p m ∙ ap (givesAt p (m .a)) n) ∙ g in
@@ -204,42 +175,15 @@ module _ (p : Place) (waits : 4 < p .state) (k : Kernel) (S : Sound k) (m : Made
       (λ w. never (lt-ltb _ 32 (first-low (Queues.queuePlace q) z)) w))
       (λ f. never (room q z) f)
 
-  send-ok : (j : ℕ) → (eqb j 24 || eqb j 25) ≡ true → (not (eqb j 5) && not (eqb j 10) && not (eqb j 15) && not (eqb j 19) && not (eqb j 20) && not (eqb j 36)) ≡ true
+  send-ok : (j : ℕ) → (eqb j 24 || eqb j 25) ≡ true → eqb j 19 ≡ false → eqb j 20 ≡ false → eqb j 36 ≡ false → eqb j 5 ≡ false → eqb j 10 ≡ false → eqb j 15 ≡ false
       → (q : ℕ) → m .number ≡ j → q ≡ min (m .a) 8 → (caller : ℕ) → (eqb caller 2 ≡ true → runnerOf k < 32) → (wait index : ℕ) (front : Bool) (messages : List ℕ) → Ok (Queues.queueSend k caller q wait index front messages)
   unfolding Queues.queueSend
-  send-ok j t d q n i caller runs wait index front messages =
+  send-ok j t e19 e20 e36 d5 d10 d15 q n i caller runs wait index front messages =
       by-test (givesb p m)
       (λ g. Steps.guarded-ok p waits k S m e es R _ _ (λ w. send-served q wait front _ (queue-there q i (Steps.gives-on p m g) (state5 g)) g))
       (λ g. Steps.still-ok p waits k S m e es R (Queues.queueSend k caller q wait index front messages) (Quiet.queue-send-quiet p waits k S q (λ z. never (gives-here z) g) caller runs wait index front messages)
       (Steps.roll-same p m (Queues.queueSend k caller q wait index front messages .status) (e ∷ es) g (ap (λ (x : ℕ). eqb x 5) n ∙ d5) (ap (λ (x : ℕ). eqb x 10) n ∙ d10) (ap (λ (x : ℕ). eqb x 15) n ∙ d15)))
     where
-      e36 : eqb j 36 ≡ false
-      e36 = not-true (eqb j 36) (and-right (not (eqb j 5) && not (eqb j 10) && not (eqb j 15) && not (eqb j 19) && not (eqb j 20)) (not (eqb j 36)) d)
-
-      r20 : (not (eqb j 5) && not (eqb j 10) && not (eqb j 15) && not (eqb j 19) && not (eqb j 20)) ≡ true
-      r20 = and-left (not (eqb j 5) && not (eqb j 10) && not (eqb j 15) && not (eqb j 19) && not (eqb j 20)) (not (eqb j 36)) d
-
-      e20 : eqb j 20 ≡ false
-      e20 = not-true (eqb j 20) (and-right (not (eqb j 5) && not (eqb j 10) && not (eqb j 15) && not (eqb j 19)) (not (eqb j 20)) r20)
-
-      r19 : (not (eqb j 5) && not (eqb j 10) && not (eqb j 15) && not (eqb j 19)) ≡ true
-      r19 = and-left (not (eqb j 5) && not (eqb j 10) && not (eqb j 15) && not (eqb j 19)) (not (eqb j 20)) r20
-
-      e19 : eqb j 19 ≡ false
-      e19 = not-true (eqb j 19) (and-right (not (eqb j 5) && not (eqb j 10) && not (eqb j 15)) (not (eqb j 19)) r19)
-
-      r15 : (not (eqb j 5) && not (eqb j 10) && not (eqb j 15)) ≡ true
-      r15 = and-left (not (eqb j 5) && not (eqb j 10) && not (eqb j 15)) (not (eqb j 19)) r19
-
-      d15 : eqb j 15 ≡ false
-      d15 = not-true (eqb j 15) (and-right (not (eqb j 5) && not (eqb j 10)) (not (eqb j 15)) r15)
-
-      d10 : eqb j 10 ≡ false
-      d10 = not-true (eqb j 10) (and-right (not (eqb j 5)) (not (eqb j 10)) (and-left (not (eqb j 5) && not (eqb j 10)) (not (eqb j 15)) r15))
-
-      d5 : eqb j 5 ≡ false
-      d5 = not-true (eqb j 5) (and-left (not (eqb j 5)) (not (eqb j 10)) (and-left (not (eqb j 5) && not (eqb j 10)) (not (eqb j 15)) r15))
-
       state5 : givesb p m ≡ true → p .state ≡ 5
       state5 g =
           let h : givesAt p (m .a) j ≡ true = sym (gives-at p m ∙ ap (givesAt p (m .a)) n) ∙ g in
@@ -333,13 +277,13 @@ module _ (p : Place) (waits : 4 < p .state) (k : Kernel) (S : Sound k) (m : Made
   service-ok caller runs (SemaphoreCreate s count) messages i calm = Steps.quiet-ok p waits k S m e es R (service k caller (SemaphoreCreate s count) messages) (Quiet.semaphore-create-quiet p waits k S (s .0) caller count) (ap Steps.quietb (i .0))
   service-ok caller runs (SemaphoreDelete s) messages i calm = upset-ok _ _ refl (λ u. Quiet.semaphore-delete-quiet p waits k S (s .0) (λ z. never (upset-semaphore 17 refl (s .0) (i .0) (i .1) z) u) caller) calm (ap Steps.quietb (i .0))
   service-ok caller runs (SemaphoreGet s wait) messages i calm = Steps.quiet-ok p waits k S m e es R (service k caller (SemaphoreGet s wait) messages) (Quiet.semaphore-get-quiet p waits k S (s .0) caller runs wait) (ap Steps.quietb (i .0))
-  service-ok caller runs (SemaphorePut s) messages i calm = put-ok 19 refl refl (s .0) (i .0) (i .1) (Refusals.semaphoreRefusal (semaphoreAt k (s .0))) (Quiet.semaphore-put-quiet p waits k S (s .0))
-  service-ok caller runs (SemaphoreCeilingPut s ceiling) messages i calm = put-ok 20 refl refl (s .0) (i .0) (i .1) (Refusals.ceilingRefusal (semaphoreAt k (s .0)) ceiling) (λ away. Quiet.ceiling-put-quiet p waits k S (s .0) away ceiling)
+  service-ok caller runs (SemaphorePut s) messages i calm = put-ok 19 refl refl refl refl refl refl refl (s .0) (i .0) (i .1) (Refusals.semaphoreRefusal (semaphoreAt k (s .0))) (Quiet.semaphore-put-quiet p waits k S (s .0))
+  service-ok caller runs (SemaphoreCeilingPut s ceiling) messages i calm = put-ok 20 refl refl refl refl refl refl refl (s .0) (i .0) (i .1) (Refusals.ceilingRefusal (semaphoreAt k (s .0)) ceiling) (λ away. Quiet.ceiling-put-quiet p waits k S (s .0) away ceiling)
   service-ok caller runs (SemaphorePrioritize s) messages i calm = upset-ok _ _ refl (λ u. Quiet.semaphore-prioritize-quiet p waits k S (s .0) (λ z. never (upset-semaphore 21 refl (s .0) (i .0) (i .1) z) u)) calm (ap Steps.quietb (i .0))
   service-ok caller runs (QueueCreate q words storage) messages i calm = Steps.quiet-ok p waits k S m e es R (service k caller (QueueCreate q words storage) messages) (Quiet.queue-create-quiet p waits k S (q .0) caller words storage) (ap Steps.quietb (i .0))
   service-ok caller runs (QueueDelete q) messages i calm = upset-ok _ _ refl (λ u. Quiet.queue-delete-quiet p waits k S (q .0) (λ z. never (upset-queue 23 refl (q .0) (i .0) (i .1) z) u) caller) calm (ap Steps.quietb (i .0))
-  service-ok caller runs (QueueSend q wait index) messages i calm = send-ok 24 refl refl (q .0) (i .0) (i .1) caller runs wait index false messages
-  service-ok caller runs (QueueFrontSend q wait index) messages i calm = send-ok 25 refl refl (q .0) (i .0) (i .1) caller runs wait index true messages
+  service-ok caller runs (QueueSend q wait index) messages i calm = send-ok 24 refl refl refl refl refl refl refl (q .0) (i .0) (i .1) caller runs wait index false messages
+  service-ok caller runs (QueueFrontSend q wait index) messages i calm = send-ok 25 refl refl refl refl refl refl refl (q .0) (i .0) (i .1) caller runs wait index true messages
   service-ok caller runs (QueueReceive q wait) messages i calm = Steps.quiet-ok p waits k S m e es R (service k caller (QueueReceive q wait) messages) (Quiet.queue-receive-quiet p waits k S (q .0) caller runs wait (λ z y. never (empty (q .0) y) z)) (ap Steps.quietb (i .0))
   service-ok caller runs (QueueFlush q) messages i calm = Steps.quiet-ok p waits k S m e es R (service k caller (QueueFlush q) messages) (Quiet.queue-flush-quiet p waits k S (q .0) (λ z y. never (empty (q .0) y) z)) (ap Steps.quietb (i .0))
   service-ok caller runs (QueuePrioritize q) messages i calm = upset-ok _ _ refl (λ u. Quiet.queue-prioritize-quiet p waits k S (q .0) (λ z. never (upset-queue 28 refl (q .0) (i .0) (i .1) z) u)) calm (ap Steps.quietb (i .0))

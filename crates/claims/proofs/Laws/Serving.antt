@@ -1,20 +1,19 @@
 -- While somebody waits no taking call there is served, and a giving call serves the first.
 use mathlib.Core.Path.{_≡_, refl, sym, ap, _∙_, subst}
-use mathlib.Core.List.{List, [], _∷_, _++_}
+use mathlib.Core.List.{List, _∷_}
 use mathlib.Core.Bool.{Bool, true, false, _&&_, _||_, not}
-use Prim.Native.Nat.{ℕ, _+_, _<_, _≤_, min}
+use Prim.Native.Nat.{ℕ, _<_, min}
 use native.Mathlib.Omega.{arith}
-use lib.ListN.{length, getD, set}
+use lib.ListN.{getD, set}
 use lib.Seq.{getD-set-same}
 use lib.Dec.{eqb, ltb}
-use borrow.Author.Tests.{eqb-true, eq-eqb, ne-eqb, lt-ltb, le-ltb, ltb-true}
+use borrow.Author.Tests.{eqb-true, lt-ltb, ltb-true}
 use Rattle.lines.specs.Logic.{if_then_else_}
 use Rattle.lines.specs.Lists.{count}
-use Rattle.lines.proofs.Laws.Logic.{by-test, by-choice, never, and-left, and-right, and-in, or-rest}
+use Rattle.lines.proofs.Laws.Logic.{by-test, by-choice, never, and-left, and-right, or-rest}
 use Rattle.scheduler.specs.declared.thread.Place.{Place}
 use Rattle.scheduler.specs.Orders.{lineAt, firstAt}
 use Rattle.objects.specs.Queues.{emptyb, roomb}
-use Rattle.calls.specs.declared.held.Held.{Held}
 use Rattle.calls.specs.Held.{noWords, noHeld, holding}
 use Rattle.calls.specs.Messages.{messageIn}
 use Rattle.calls.specs.Statuses as Statuses
@@ -34,7 +33,7 @@ use Rattle.kernel.specs.Semaphores as Semaphores
 use Rattle.kernel.specs.Queues as Queues
 use Rattle.kernel.specs.Sound.{Sound}
 use Rattle.claims.specs.Lists.{Made, answer, next}
-use Rattle.claims.specs.Rolls.{Entry, names, onb, givesb, takesb, doneb, objectb, givenWords}
+use Rattle.claims.specs.Rolls.{Entry, onb, givesb, takesb, doneb, objectb, givenWords}
 use Rattle.claims.proofs.Laws.Members
 use Rattle.claims.proofs.Laws.Steps
 use Rattle.claims.proofs.Laws.Rolls

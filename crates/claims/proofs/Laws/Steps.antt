@@ -1,52 +1,36 @@
 -- One call and the roll.
 use mathlib.Core.Path.{_≡_, refl, sym, ap, _∙_, subst}
-use mathlib.Core.List.{List, [], _∷_}
+use mathlib.Core.List.{List, _∷_}
 use mathlib.Core.Bool.{Bool, true, false, _&&_, _||_, not}
-use Prim.Native.Nat.{ℕ, _<_, min}
+use Prim.Native.Nat.{ℕ, _<_}
 use native.Mathlib.Omega.{arith}
-use lib.Dec.{eqb, ltb}
-use borrow.Author.Tests.{eqb-true, eqb-false, eq-eqb, ne-eqb, lt-ltb, ltb-true, not-true}
+use lib.Dec.{eqb}
+use borrow.Author.Tests.{eqb-true, eq-eqb, not-true}
 use Rattle.lines.specs.Logic.{if_then_else_, oneIf}
-use Rattle.lines.specs.Lists.{without, count, Begins}
-use Rattle.lines.proofs.Laws.Logic.{by-test, by-choice, never, and-left, and-right, and-in, or-left, or-right}
+use Rattle.lines.specs.Lists.{count}
+use Rattle.lines.proofs.Laws.Logic.{by-test, by-choice, and-left, and-right}
 use Rattle.lines.proofs.Laws.Lists
-use Rattle.scheduler.specs.declared.thread.Thread.{Thread}
 use Rattle.scheduler.specs.declared.thread.Place.{Place}
-use Rattle.scheduler.specs.Threads.{placedb, atRest, inState}
+use Rattle.scheduler.specs.Threads.{placedb}
 use Rattle.scheduler.specs.Orders.{lineAt, firstAt}
 use Rattle.scheduler.specs.Sound.{Steady}
 use Rattle.scheduler.proofs.Laws.Orders
 use Rattle.scheduler.proofs.Laws.States
 use Rattle.scheduler.proofs.Laws.Fairness.{first-of-beginning}
-use Rattle.objects.specs.Queues.{emptyb, roomb}
-use Rattle.calls.specs.Held.{noHeld, noWords}
-use Rattle.calls.specs.Messages.{messageIn}
+use Rattle.calls.specs.Held.{noWords}
 use Rattle.calls.specs.Statuses as Statuses
-use Rattle.calls.specs.Refusals
 use Rattle.kernel.specs.declared.Kernel.{Kernel}
-use Rattle.kernel.specs.Tables.{threadOf, runnerOf, heldAt, queueAt, given}
+use Rattle.kernel.specs.Tables.{threadOf}
 use Rattle.kernel.specs.Answers.{Outcome, refused, carried, guarded}
 use Rattle.kernel.specs.Waits.{endWait, ticked}
-use Rattle.kernel.specs.Threads as Threads
-use Rattle.kernel.specs.Clock as Clock
-use Rattle.kernel.specs.Semaphores as Semaphores
-use Rattle.kernel.specs.Queues as Queues
 use Rattle.kernel.specs.Sound.{Sound}
-use Rattle.kernel.proofs.Laws.Answers.{first-none, second-none, unless-none}
 use Rattle.kernel.proofs.Laws.Keeps
 use Rattle.claims.specs.Lists.{Made}
-use Rattle.claims.specs.Rolls.{Entry, names, rest, each, unnamed, onb, givesb, takesb, upsetsb, struck}
+use Rattle.claims.specs.Rolls.{Entry, names, rest, each, unnamed, onb, givesb, upsetsb, struck}
 use Rattle.claims.specs.Rolls as Roll
 use Rattle.claims.proofs.Laws.Still
 use Rattle.claims.proofs.Laws.Members
 use Rattle.claims.proofs.Laws.Ticks
-
-and-no : (b : Bool) → (b && false) ≡ false
-and-no true = refl
-and-no false = refl
-
-or-no : (a b : Bool) → a ≡ false → b ≡ false → (a || b) ≡ false
-or-no a b p q = ap (λ (x : Bool). x || b) p ∙ q
 
 -- numbers of calls that give nowhere, and of those that change no roll at all
 abbrev pub givelessb : ℕ → Bool
@@ -74,7 +58,7 @@ module _ (p : Place) (m : Made) where
       let x24 = not-true (eqb n 24) (and-right (not (eqb n 19) && not (eqb n 20)) (not (eqb n 24)) q24) in
       let x20 = not-true (eqb n 20) (and-right (not (eqb n 19)) (not (eqb n 20)) q20) in
       let x19 = not-true (eqb n 19) (and-left (not (eqb n 19)) (not (eqb n 20)) q20) in
-      rw (x36, x25, x24, x20, x19, and-no (eqb (p .state) 6), and-no (eqb (p .state) 5), and-no (eqb (p .state) 8)) (and-no (eqb (m .a) (p .number)))
+      rw (x36, x25, x24, x20, x19, Still.and-no (eqb (p .state) 6), Still.and-no (eqb (p .state) 5), Still.and-no (eqb (p .state) 8)) (Still.and-no (eqb (m .a) (p .number)))
 
   -- a call that gives not here and is none of 5, 10 and 15
   pub roll-same : (status : ℕ) (r : List Entry) → givesb p m ≡ false → eqb n 5 ≡ false → eqb n 10 ≡ false → eqb n 15 ≡ false → rolledBy status r ≡ r

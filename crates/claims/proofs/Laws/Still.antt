@@ -1,15 +1,14 @@
 -- Changes that leave an object's line as it is, but for whoever joins at its end, and what its members hold.
 use mathlib.Core.Path.{_≡_, refl, sym, ap, _∙_}
 use mathlib.Core.List.{List, [], _∷_, _++_, append-nil, append-assoc}
-use mathlib.Core.Bool.{Bool, true, false, _&&_, _||_}
-use Prim.Native.Nat.{ℕ, _<_, _≤_}
+use mathlib.Core.Bool.{Bool, true, false, _&&_}
+use Prim.Native.Nat.{ℕ, _<_}
 use native.Mathlib.Omega.{arith}
-use lib.Dec.{eqb, ltb}
-use lib.ListN.{length}
+use lib.Dec.{eqb}
 use lib.Seq.{getD-set-other}
-use borrow.Author.Tests.{eqb-true, ne-eqb}
-use Rattle.lines.specs.Logic.{oneIf}
-use Rattle.lines.specs.Lists.{without, onlyIf, count, Begins}
+use borrow.Author.Tests.{eqb-true}
+use Rattle.lines.specs.Logic.{if_then_else_, oneIf}
+use Rattle.lines.specs.Lists.{filter, count, Begins}
 use Rattle.lines.proofs.Laws.Logic.{by-test, by-eq, by-choice, never, and-left, and-right}
 use Rattle.lines.proofs.Laws.Lists
 use Rattle.scheduler.specs.declared.thread.Thread.{Thread}
@@ -28,8 +27,7 @@ use Rattle.calls.specs.Held.{noHeld, holding}
 use Rattle.kernel.specs.declared.Kernel.{Kernel}
 use Rattle.kernel.specs.Tables.{threadOf, heldAt, withScheduler, withHeld, given}
 use Rattle.kernel.specs.Answers.{Outcome, refused, carried, guarded}
-use Rattle.kernel.specs.Waits.{endWait, endEach, startWait}
-use Rattle.kernel.specs.Tables.{runnerOf}
+use Rattle.kernel.specs.Waits.{endWait, endEach}
 
 -- tables k and x: the line at p is the beginning of the later one, and its members keep their ticks and what they hold
 pub record Still (p : Place) (k x : Kernel) : Type 0 where
@@ -41,6 +39,18 @@ pub record Still (p : Place) (k x : Kernel) : Type 0 where
 pub begins-then : (xs ys zs : List ℕ) → Begins xs ys → Begins ys zs → Begins xs zs
 begins-then xs ys zs b c = (b .0 ++ c .0, c .1 ∙ ap (λ (l : List ℕ). l ++ c .0) (b .1) ∙ append-assoc xs (b .0) (c .0))
 
+-- ---- tests
+pub and-no : (b : Bool) → (b && false) ≡ false
+and-no true = refl
+and-no false = refl
+
+-- a test that holds of all leaves a list as it is
+pub all-kept : (f : ℕ → Bool) (xs : List ℕ) → ((u : ℕ) → f u ≡ true) → xs ≡ filter f xs
+unfolding filter
+all-kept f [] h = refl
+all-kept f (x ∷ xs) h = ap {B = List ℕ} (λ l. x ∷ l) (all-kept f xs h) ∙ sym (ap (λ (b : Bool). if b then x ∷ filter f xs else filter f xs) (h x))
+
+-- ---- lines
 -- whoever stood in the line stands in it still
 pub still-there : (p : Place) (k x : Kernel) → Still p k x → (u : ℕ) → 0 < count u (lineAt (k .scheduler) p) → 0 < count u (lineAt (x .scheduler) p)
 still-there p k x a u c = let m = Lists.begins-count (lineAt (k .scheduler) p) (lineAt (x .scheduler) p) (a .begins) u in omega (arith, c, m)

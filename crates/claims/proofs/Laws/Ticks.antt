@@ -2,29 +2,27 @@
 use mathlib.Core.Path.{_≡_, refl, sym, ap, _∙_}
 use mathlib.Core.List.{List, [], _∷_, _++_}
 use mathlib.Core.Bool.{Bool, true, false, _&&_, not}
-use Prim.Native.Nat.{ℕ, zero, suc, _-_, _<_, _≤_}
+use Prim.Native.Nat.{ℕ, zero, suc, _-_, _<_}
 use native.Mathlib.Omega.{arith}
 use lib.Dec.{eqb, ltb}
-use borrow.Author.Tests.{lt-ltb, le-ltb, ltb-true, ltb-false, eq-eqb, ne-eqb, eqb-true, not-true}
+use borrow.Author.Tests.{lt-ltb, le-ltb, ltb-true, ltb-false, eq-eqb, ne-eqb, eqb-true}
 use Rattle.lines.specs.Logic.{if_then_else_, oneIf}
-use Rattle.lines.specs.Lists.{filter, without, count, Begins}
-use Rattle.lines.proofs.Laws.Logic.{by-test, by-eq, by-choice, never, and-left, and-right, and-in, or-left}
+use Rattle.lines.specs.Lists.{filter, without, count}
+use Rattle.lines.proofs.Laws.Logic.{by-test, by-eq, never, and-left, and-right}
 use Rattle.lines.proofs.Laws.Lists
 use Rattle.scheduler.specs.declared.thread.Thread.{Thread}
 use Rattle.scheduler.specs.declared.thread.Place.{Place}
-use Rattle.scheduler.specs.Threads.{readyb, waitsb, sleepsb, pausedb, standsb, numberOf, placedb, awake}
-use Rattle.scheduler.specs.Orders.{threadAt, lineAt, withThread, woken}
-use Rattle.scheduler.specs.Sound.{Steady}
+use Rattle.scheduler.specs.Threads.{readyb, waitsb, pausedb, standsb, numberOf, placedb, awake}
+use Rattle.scheduler.specs.Orders.{lineAt, withThread}
 use Rattle.scheduler.proofs.Laws.Orders
 use Rattle.scheduler.proofs.Laws.Choosing
 use Rattle.scheduler.proofs.Laws.States
-use Rattle.scheduler.proofs.Laws.Threads.{placed-stands}
 use Rattle.waiting.specs.Ticks.{forever, timedb, lastTickb, withTicks, timeoutStatus}
 use Rattle.calls.specs.Held.{noWords}
 use Rattle.kernel.specs.declared.Kernel.{Kernel}
-use Rattle.kernel.specs.Tables.{threadOf, heldAt, withScheduler, withHeld, withClock}
+use Rattle.kernel.specs.Tables.{threadOf, heldAt, withScheduler, withClock}
 use Rattle.kernel.specs.Answers.{carried}
-use Rattle.kernel.specs.Waits.{endWait, tickOne, tickBelow, oneMore, ticked}
+use Rattle.kernel.specs.Waits.{endWait, tickBelow, ticked}
 use Rattle.kernel.proofs.Laws.Keeps
 use Rattle.kernel.proofs.Laws.KeepsTicks
 use Rattle.kernel.proofs.Laws.Waits.{below-other, tick-last, tick-timed, tick-none}
@@ -58,10 +56,6 @@ ltb-there u n d =
     by-test (ltb u n)
     (λ e. lt-ltb u (suc n) (let l = ltb-true u n e in omega (arith, l)) ∙ sym e)
     (λ e. le-ltb u (suc n) (let l = ltb-false u n e in omega (arith, l, d)) ∙ sym e)
-
-and-no : (b : Bool) → (b && false) ≡ false
-and-no true = refl
-and-no false = refl
 
 and-yes : (b : Bool) → (b && true) ≡ b
 and-yes true = refl
@@ -111,13 +105,13 @@ module _ (p : Place) (waits : 4 < p .state) (k : Kernel) (F : Keeps.Fit k) where
   stays-last : (n : ℕ) → lastTickb (threadOf k n) ≡ true → (u : ℕ) → (stays n u && not (eqb u n)) ≡ stays (suc n) u
   stays-last n e u =
       by-eq u n
-      (λ q. rw (q, eq-eqb n n refl, ltb-here n, e) (and-no (not (ltb n n && true))))
+      (λ q. rw (q, eq-eqb n n refl, ltb-here n, e) (Still.and-no (not (ltb n n && true))))
       (λ q. rw (ne-eqb u n q, ltb-there u n q) (and-yes (stays n u)))
 
   stays-same : (n : ℕ) → lastTickb (threadOf k n) ≡ false → (u : ℕ) → stays n u ≡ stays (suc n) u
   stays-same n e u =
       by-eq u n
-      (λ q. rw (q, e, and-no (ltb n n), and-no (ltb n (suc n))))
+      (λ q. rw (q, e, Still.and-no (ltb n n), Still.and-no (ltb n (suc n))))
       (λ q. rw (ltb-there u n q))
 
   stays-before : (n u : ℕ) → (u ≡ n → ⊥) → stays (suc n) u ≡ true → stays n u ≡ true
@@ -126,14 +120,9 @@ module _ (p : Place) (waits : 4 < p .state) (k : Kernel) (F : Keeps.Fit k) where
   none-below : (u : ℕ) → stays 0 u ≡ true
   none-below u = rw (le-ltb u 0 (omega arith))
 
-  all-kept : (f : ℕ → Bool) (xs : List ℕ) → ((u : ℕ) → f u ≡ true) → xs ≡ filter f xs
-  unfolding filter
-  all-kept f [] h = refl
-  all-kept f (x ∷ xs) h = ap {B = List ℕ} (λ l. x ∷ l) (all-kept f xs h) ∙ sym (ap (λ (b : Bool). if b then x ∷ filter f xs else filter f xs) (h x))
-
   line-below : (n : ℕ) → lineAt (at n .scheduler) p ≡ filter (stays n) (lineAt (k .scheduler) p)
   unfolding tickBelow withScheduler without
-  line-below zero = all-kept (stays 0) (lineAt (k .scheduler) p) none-below
+  line-below zero = Still.all-kept (stays 0) (lineAt (k .scheduler) p) none-below
   line-below (suc n) =
       let L = lineAt (k .scheduler) p in
       by-test (lastTickb (threadOf k n))

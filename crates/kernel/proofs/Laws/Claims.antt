@@ -75,7 +75,7 @@ service-sound k S caller runs (ThreadStateRead t) messages = KeepsThreads.read-s
 service-sound k S caller runs (ThreadWordsRead t) messages = KeepsThreads.words-sound k S (t .0)
 
 -- who is not refused for want of a runner has one, where a thread calls
-runner-there : (k : Kernel) (caller : ℕ) → (eqb caller 2 && not (ltb (runnerOf k) 32)) ≡ false → eqb caller 2 ≡ true → runnerOf k < 32
+pub runner-there : (k : Kernel) (caller : ℕ) → (eqb caller 2 && not (ltb (runnerOf k) 32)) ≡ false → eqb caller 2 ≡ true → runnerOf k < 32
 runner-there k caller e c = ltb-true (runnerOf k) 32 (not-false (ltb (runnerOf k) 32) (sym (ap (λ (b : Bool). b && not (ltb (runnerOf k) 32)) c) ∙ e))
 
 record-sound : (k : Kernel) → Sound k → (caller : ℕ) (d : Decoded) (messages : List ℕ) → Sound (byRecord k caller d messages .kernel)

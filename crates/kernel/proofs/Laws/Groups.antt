@@ -17,7 +17,7 @@ use Rattle.scheduler.specs.Orders.{lineAt}
 use Rattle.objects.specs.Groups.{metb, clearOf}
 use Rattle.matching.specs.Matching.{metAtb, wokenOf, clearsOf}
 use Rattle.calls.specs.declared.held.Held.{Held}
-use Rattle.calls.specs.Held.{holding, noHeld}
+use Rattle.calls.specs.Held.{noHeld}
 use Rattle.kernel.specs.declared.Kernel.{Kernel}
 use Rattle.kernel.specs.Tables.{heldAt}
 use Rattle.kernel.specs.Groups.{groupPlace, wokenBy, clearsBy}

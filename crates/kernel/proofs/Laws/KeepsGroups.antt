@@ -7,13 +7,12 @@ use native.Mathlib.Omega.{arith}
 use lib.Bits.{bitAnd, bitOr}
 use lib.ListN.{List·getD-eq-default}
 use lib.Dec.{eqb, ltb, leb}
-use borrow.Author.Tests.{ltb-true, ltb-false, not-true, not-false}
+use borrow.Author.Tests.{ltb-true, ltb-false, not-true}
 use Rattle.lines.specs.Logic.{oneIf}
-use Rattle.lines.specs.Lists.{count, filter}
+use Rattle.lines.specs.Lists.{count}
 use Rattle.lines.proofs.Laws.Lists
 use Rattle.lines.proofs.Laws.Logic.{by-test, by-choice, never, and-left, and-right, and-in, implies-out}
-use Rattle.scheduler.specs.declared.thread.Thread.{Thread}
-use Rattle.scheduler.specs.Threads.{inState, placedb}
+use Rattle.scheduler.specs.Threads.{inState}
 use Rattle.scheduler.specs.Orders.{lineAt}
 use Rattle.scheduler.proofs.Laws.Orders
 use Rattle.objects.specs.declared.group.Group.{Group}

@@ -2,19 +2,18 @@
 use mathlib.Core.Path.{_≡_, refl, sym, ap, _∙_}
 use mathlib.Core.List.{List}
 use mathlib.Core.Bool.{Bool, true, false, _&&_, _||_, not}
-use Prim.Native.Nat.{ℕ, _<_, _≤_}
+use Prim.Native.Nat.{ℕ, _<_}
 use native.Mathlib.Omega.{arith}
-use lib.ListN.{length, take, drop, length-take, getD, List·getD-eq-default}
-use lib.Dec.{eqb, ltb, leb}
-use borrow.Author.Tests.{ltb-true, ltb-false, eq-eqb, not-true, not-false}
-use Rattle.lines.specs.Logic.{if_then_else_, allBelow}
+use lib.ListN.{take, drop, length-take, getD, List·getD-eq-default}
+use lib.Dec.{eqb, ltb}
+use borrow.Author.Tests.{ltb-true, ltb-false, eq-eqb, not-true}
+use Rattle.lines.specs.Logic.{if_then_else_}
 use Rattle.lines.specs.Lines.{pad}
 use Rattle.lines.proofs.Laws.Lines.{getD-pad}
 use Rattle.lines.proofs.Laws.Logic.{by-test, by-eq, by-choice, never, and-left, and-right, and-in, or-left, or-right, implies-out, all-in}
 use Rattle.scheduler.specs.declared.thread.Thread.{Thread}
-use Rattle.scheduler.specs.Threads.{inState, awake}
+use Rattle.scheduler.specs.Threads.{inState}
 use Rattle.scheduler.specs.Orders.{lineAt, firstAt}
-use Rattle.scheduler.proofs.Laws.States
 use Rattle.objects.specs.declared.queue.Queue.{Queue}
 use Rattle.objects.specs.Queues.{noQueue, emptyb, fullb, roomb, sizesFitb, emptyQueue, withoutOldest, withSent, leftPast, flushed, queueFitb}
 use Rattle.objects.proofs.Laws.Queues as Records

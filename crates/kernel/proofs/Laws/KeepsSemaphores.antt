@@ -1,22 +1,16 @@
 -- Calls 16 to 21 keep soundness.
 use mathlib.Core.Path.{_≡_, refl, sym, ap, _∙_}
 use mathlib.Core.List.{List}
-use mathlib.Core.Bool.{Bool, true, false, _&&_, _||_, not}
+use mathlib.Core.Bool.{true, false, _&&_, _||_, not}
 use Prim.Native.Nat.{ℕ, _-_, _<_}
 use native.Mathlib.Omega.{arith}
 use lib.ListN.{List·getD-eq-default}
 use lib.Dec.{eqb, ltb}
-use borrow.Author.Tests.{ltb-true, ltb-false, eqb-true, eq-eqb, ne-eqb, not-true}
-use Rattle.lines.specs.Logic.{oneIf}
+use borrow.Author.Tests.{ltb-true, ltb-false, eq-eqb, ne-eqb, not-true}
 use Rattle.lines.specs.Lists.{count}
-use Rattle.lines.proofs.Laws.Logic.{by-test, by-choice, never, and-left, and-right, and-in, or-rest, implies-out}
-use Rattle.scheduler.specs.declared.thread.Thread.{Thread}
-use Rattle.scheduler.specs.Threads.{readyb, waitsb, standsb, numberOf, placedb, inState, awake}
-use Rattle.scheduler.specs.Orders.{threadAt, lineAt, firstAt, prioritisedAt, withOrder}
-use Rattle.scheduler.proofs.Laws.Threads.{placed-stands}
-use Rattle.scheduler.proofs.Laws.Orders
-use Rattle.scheduler.proofs.Laws.States
-use Rattle.scheduler.proofs.Laws.Fairness.{first-placed}
+use Rattle.lines.proofs.Laws.Logic.{by-test, by-choice, never, and-left, and-right, and-in, implies-out}
+use Rattle.scheduler.specs.Threads.{inState}
+use Rattle.scheduler.specs.Orders.{lineAt, firstAt}
 use Rattle.objects.specs.declared.semaphore.Semaphore.{Semaphore}
 use Rattle.objects.specs.Semaphores.{noSemaphore}
 use Rattle.calls.specs.Held.{noWords, waiting}

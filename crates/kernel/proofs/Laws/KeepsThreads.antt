@@ -17,7 +17,7 @@ use Rattle.scheduler.proofs.Laws.Threads.{fit-low}
 use Rattle.scheduler.proofs.Laws.Orders
 use Rattle.scheduler.proofs.Laws.Changing
 use Rattle.scheduler.proofs.Laws.States
-use Rattle.calls.specs.Held.{noWords, holding, noHeld, waiting}
+use Rattle.calls.specs.Held.{noWords, noHeld, waiting}
 use Rattle.calls.specs.Statuses as Statuses
 use Rattle.calls.specs.Refusals.{unless, firstOf, finishedb, createRefusal, deleteRefusal, resumeRefusal, suspendRefusal, terminateRefusal, resetRefusal, threadOnlyRefusal, abortRefusal, priorityRefusal, preemptionRefusal}
 use Rattle.kernel.specs.declared.Kernel.{Kernel}

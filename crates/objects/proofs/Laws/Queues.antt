@@ -8,7 +8,7 @@ use native.Mathlib.Nat.{div-zero, div-le-self, zero-mul, suc-mul, add-comm, div-
 use native.Mathlib.Numerals.{add-one}
 use lib.ListN.{length, take, drop, getD, length-take, length-drop, length-append, getD-replicate, List·getD-eq-default}
 use lib.Seq.{length-take-le, take-take}
-use lib.Dec.{eqb, ltb, leb}
+use lib.Dec.{eqb, leb}
 use borrow.Author.Tests.{eqb-true, eqb-false, eq-eqb, ne-eqb, leb-true, le-leb, ltb-true, ltb-false, lt-ltb}
 use Rattle.lines.specs.Logic.{allBelow}
 use Rattle.lines.proofs.Laws.Logic.{by-test, by-eq, by-choice, and-left, and-right, and-in}

@@ -1,12 +1,9 @@
-use mathlib.Core.Path.{_≡_, sym, ap, _∙_}
+use mathlib.Core.Path.{_≡_, sym, _∙_}
 use mathlib.Core.Logic.{⊎-elim}
 use Prim.Native.Nat.{_-_}
 use borrow.Author.Needs.{needs}
 use lib.ListN.{length}
-use Rattle.scheduler.specs.Orders.{moved}
-use Rattle.calls.specs.declared.held.Held.{Held}
-use Rattle.calls.specs.Held.{noWords, holding}
-use Rattle.kernel.specs.Tables.{withScheduler, withHeld, withSemaphore, withClock, given}
+use Rattle.kernel.specs.Tables.{withScheduler, withHeld}
 use Rattle.kernel.specs.Answers.{answerOf, carried, answered}
 use Rattle.kernel.specs.Waits.{startWait}
 use Rattle.scheduler.proofs.Laws.Threads.{length-mapped}

@@ -1,4 +1,4 @@
-use mathlib.Core.Path.{_≡_, refl, sym, ap, _∙_}
+use mathlib.Core.Path.{_≡_, refl, ap, _∙_}
 use Prim.Native.Nat.{ℕ, _≤_, _-_}
 use native.Mathlib.Omega.{arith}
 use borrow.Author.Needs.{needs}
@@ -6,7 +6,7 @@ use lib.ListN.{take, getD, set}
 use Rattle.lines.specs.Lists.{numbersFrom}
 use Rattle.lines.specs.Lines.{pad}
 use Rattle.lines.proofs.Laws.Lists.{number-at}
-use Rattle.lines.proofs.Laws.Lines.{pad-none, pad-take, pad-on}
+use Rattle.lines.proofs.Laws.Lines.{pad-none, pad-on}
 use Rattle.objects.proofs.pool.ascending.Statement.{statement}
 use Rattle.objects.proofs.pool.ascending.Tie as tie
 

@@ -1,7 +1,7 @@
 use mathlib.Core.Path.{_≡_, sym, _∙_}
 use native.Mathlib.Omega.{arith}
 use borrow.Author.Needs.{needs}
-use lib.ListN.{length, getD}
+use lib.ListN.{length}
 use lib.Seq.{getD-take}
 use Rattle.lines.proofs.Laws.Lists.{getD-any}
 use Rattle.objects.specs.Pools.{freeBlocks, nextBlock}
