@@ -6,7 +6,8 @@ use Rattle.lines.specs.declared.ThreadId.{ThreadId}
 use Rattle.objects.specs.declared.semaphore.SemaphoreId.{SemaphoreId}
 use Rattle.objects.specs.declared.queue.QueueId.{QueueId}
 use Rattle.objects.specs.declared.group.GroupId.{GroupId}
-use Rattle.calls.specs.declared.call.Call.the-variants.{ThreadCreate, ThreadDelete, ThreadResume, ThreadSuspend, ThreadTerminate, ThreadReset, ThreadFinish, ThreadRelinquish, ThreadSleep, ThreadWaitAbort, ThreadPriorityChange, ThreadPreemptionChange, TimeGet, TimeSet, Tick, SemaphoreCreate, SemaphoreDelete, SemaphoreGet, SemaphorePut, SemaphoreCeilingPut, SemaphorePrioritize, QueueCreate, QueueDelete, QueueSend, QueueFrontSend, QueueReceive, QueueFlush, QueuePrioritize, EventFlagsCreate, EventFlagsDelete, EventFlagsSet, EventFlagsGet, ThreadStateRead, ThreadWordsRead}
+use Rattle.objects.specs.declared.pool.PoolId.{PoolId}
+use Rattle.calls.specs.declared.call.Call.the-variants.{ThreadCreate, ThreadDelete, ThreadResume, ThreadSuspend, ThreadTerminate, ThreadReset, ThreadFinish, ThreadRelinquish, ThreadSleep, ThreadWaitAbort, ThreadPriorityChange, ThreadPreemptionChange, TimeGet, TimeSet, Tick, SemaphoreCreate, SemaphoreDelete, SemaphoreGet, SemaphorePut, SemaphoreCeilingPut, SemaphorePrioritize, QueueCreate, QueueDelete, QueueSend, QueueFrontSend, QueueReceive, QueueFlush, QueuePrioritize, EventFlagsCreate, EventFlagsDelete, EventFlagsSet, EventFlagsGet, BlockPoolCreate, BlockPoolDelete, BlockAllocate, BlockRelease, BlockPoolPrioritize, ThreadStateRead, ThreadWordsRead}
 use Rattle.calls.specs.declared.call.Decoded.{Decoded}
 use Rattle.calls.specs.declared.call.Decoded.the-variants.{Known, Unknown}
 
@@ -32,6 +33,13 @@ queueNumber a = record { 0 = min a 8 }
 
 abbrev pub groupNumber : ℕ → GroupId
 groupNumber a = record { 0 = min a 8 }
+
+abbrev pub poolNumber : ℕ → PoolId
+poolNumber a = record { 0 = min a 4 }
+
+-- blocks are numbered from 0, and no pool has more than 64
+abbrev pub blockNumber : ℕ → ℕ
+blockNumber b = min b 64
 
 -- the call of each number
 unfoldable pub knownCall : ℕ → ℕ → ℕ → ℕ → ℕ → Decoded
@@ -68,6 +76,11 @@ knownCall n a b c d =
     else if eqb n 30 then Known (EventFlagsDelete (groupNumber a))
     else if eqb n 31 then Known (EventFlagsSet (groupNumber a) b c)
     else if eqb n 32 then Known (EventFlagsGet (groupNumber a) b c d)
+    else if eqb n 33 then Known (BlockPoolCreate (poolNumber a) b c)
+    else if eqb n 34 then Known (BlockPoolDelete (poolNumber a))
+    else if eqb n 35 then Known (BlockAllocate (poolNumber a) b)
+    else if eqb n 36 then Known (BlockRelease (poolNumber a) (blockNumber b))
+    else if eqb n 37 then Known (BlockPoolPrioritize (poolNumber a))
     else if eqb n 38 then Known (ThreadStateRead (threadNumber a))
     else if eqb n 39 then Known (ThreadWordsRead (threadNumber a))
     else Unknown

@@ -4,6 +4,7 @@ ghost use Prim.Native.Nat.{min};
 ghost use Rattle.calls.specs.Calls.{decoded};
 use lines::ThreadId;
 use objects::group::GroupId;
+use objects::pool::PoolId;
 use objects::queue::QueueId;
 use objects::semaphore::SemaphoreId;
 
@@ -47,6 +48,11 @@ pub enum Call {
     EventFlagsDelete(GroupId),
     EventFlagsSet(GroupId, u32, u32),
     EventFlagsGet(GroupId, u32, u32, u32),
+    BlockPoolCreate(PoolId, u32, u32),
+    BlockPoolDelete(PoolId),
+    BlockAllocate(PoolId, u32),
+    BlockRelease(PoolId, u8),
+    BlockPoolPrioritize(PoolId),
     ThreadStateRead(ThreadId),
     ThreadWordsRead(ThreadId),
 }
@@ -93,6 +99,20 @@ pub fn group_id(a: u32) -> GroupId
     if a < 8 { GroupId(a as u8) } else { GroupId(8) }
 }
 
+// A pool's number; every number past the last stands for none.
+pub fn pool_id(a: u32) -> PoolId
+    ensures { λ r. ⌜ r .0 ≡ min a 4 ⌝ }
+{
+    if a < 4 { PoolId(a as u8) } else { PoolId(4) }
+}
+
+// A block's number as a byte; every number past the last block that a pool can have stands for none.
+pub fn block_number(b: u32) -> u8
+    ensures { λ r. ⌜ r ≡ min b 64 ⌝ }
+{
+    if b < 64 { b as u8 } else { 64 }
+}
+
 // A request's option as a byte; every option past the last stands for the one behind it.
 pub fn option_of(option: u32) -> u8
     ensures { λ r. ⌜ r ≡ min option 4 ⌝ }
@@ -111,6 +131,8 @@ pub fn decode(number: u32, caller: u32, a: u32, b: u32, c: u32, d: u32) -> Decod
     let s = semaphore_id(a);
     let q = queue_id(a);
     let g = group_id(a);
+    let p = pool_id(a);
+    let n = block_number(b);
     match number {
         1 => Decoded::Known(Call::ThreadCreate(t, b, c, d)),
         2 => Decoded::Known(Call::ThreadDelete(t)),
@@ -144,6 +166,11 @@ pub fn decode(number: u32, caller: u32, a: u32, b: u32, c: u32, d: u32) -> Decod
         30 => Decoded::Known(Call::EventFlagsDelete(g)),
         31 => Decoded::Known(Call::EventFlagsSet(g, b, c)),
         32 => Decoded::Known(Call::EventFlagsGet(g, b, c, d)),
+        33 => Decoded::Known(Call::BlockPoolCreate(p, b, c)),
+        34 => Decoded::Known(Call::BlockPoolDelete(p)),
+        35 => Decoded::Known(Call::BlockAllocate(p, b)),
+        36 => Decoded::Known(Call::BlockRelease(p, n)),
+        37 => Decoded::Known(Call::BlockPoolPrioritize(p)),
         38 => Decoded::Known(Call::ThreadStateRead(t)),
         39 => Decoded::Known(Call::ThreadWordsRead(t)),
         _ => Decoded::Unknown,

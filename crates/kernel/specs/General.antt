@@ -11,7 +11,7 @@ use Rattle.kernel.specs.Sound.{soundb}
 use Rattle.calls.specs.Calls.{thread, decoded}
 use Rattle.calls.specs.Statuses as Statuses
 use Rattle.calls.specs.declared.call.Call.{Call}
-use Rattle.calls.specs.declared.call.Call.the-variants.{ThreadCreate, ThreadDelete, ThreadResume, ThreadSuspend, ThreadTerminate, ThreadReset, ThreadFinish, ThreadRelinquish, ThreadSleep, ThreadWaitAbort, ThreadPriorityChange, ThreadPreemptionChange, TimeGet, TimeSet, Tick, SemaphoreCreate, SemaphoreDelete, SemaphoreGet, SemaphorePut, SemaphoreCeilingPut, SemaphorePrioritize, QueueCreate, QueueDelete, QueueSend, QueueFrontSend, QueueReceive, QueueFlush, QueuePrioritize, EventFlagsCreate, EventFlagsDelete, EventFlagsSet, EventFlagsGet, ThreadStateRead, ThreadWordsRead}
+use Rattle.calls.specs.declared.call.Call.the-variants.{ThreadCreate, ThreadDelete, ThreadResume, ThreadSuspend, ThreadTerminate, ThreadReset, ThreadFinish, ThreadRelinquish, ThreadSleep, ThreadWaitAbort, ThreadPriorityChange, ThreadPreemptionChange, TimeGet, TimeSet, Tick, SemaphoreCreate, SemaphoreDelete, SemaphoreGet, SemaphorePut, SemaphoreCeilingPut, SemaphorePrioritize, QueueCreate, QueueDelete, QueueSend, QueueFrontSend, QueueReceive, QueueFlush, QueuePrioritize, EventFlagsCreate, EventFlagsDelete, EventFlagsSet, EventFlagsGet, BlockPoolCreate, BlockPoolDelete, BlockAllocate, BlockRelease, BlockPoolPrioritize, ThreadStateRead, ThreadWordsRead}
 use Rattle.calls.specs.declared.call.Decoded.{Decoded}
 use Rattle.calls.specs.declared.call.Decoded.the-variants.{Known, Unknown}
 use Rattle.kernel.specs.declared.Kernel.{Kernel}
@@ -22,6 +22,7 @@ use Rattle.kernel.specs.Clock.{timeGet, timeSet, tick}
 use Rattle.kernel.specs.Semaphores.{semaphoreCreate, semaphoreDelete, semaphoreGet, semaphorePut, semaphoreCeilingPut, semaphorePrioritize}
 use Rattle.kernel.specs.Queues.{queueCreate, queueDelete, queueSend, queueReceive, queueFlush, queuePrioritize}
 use Rattle.kernel.specs.Groups.{groupCreate, groupDelete, groupSet, groupGet}
+use Rattle.kernel.specs.Pools.{poolCreate, poolDelete, blockAllocate, blockRelease, poolPrioritize}
 
 -- a known call by a known caller; a send takes its message from the lent area
 unfoldable pub service : Kernel → ℕ → Call → List ℕ → Outcome
@@ -57,6 +58,11 @@ service k caller (EventFlagsCreate n) messages = groupCreate k caller (n .0)
 service k caller (EventFlagsDelete n) messages = groupDelete k caller (n .0)
 service k caller (EventFlagsSet n flags option) messages = groupSet k (n .0) flags option
 service k caller (EventFlagsGet n request option wait) messages = groupGet k caller (n .0) request option wait
+service k caller (BlockPoolCreate n block total) messages = poolCreate k caller (n .0) block total
+service k caller (BlockPoolDelete n) messages = poolDelete k caller (n .0)
+service k caller (BlockAllocate n wait) messages = blockAllocate k caller (n .0) wait
+service k caller (BlockRelease n block) messages = blockRelease k (n .0) block
+service k caller (BlockPoolPrioritize n) messages = poolPrioritize k (n .0)
 service k caller (ThreadStateRead t) messages = threadStateRead k (t .0)
 service k caller (ThreadWordsRead t) messages = threadWordsRead k (t .0)
 

@@ -86,6 +86,16 @@ impl Kernel {
                 option,
                 wait,
             ),
+            Call::BlockPoolCreate(n, block, total) => self.block_pool_create(
+                caller,
+                n,
+                block,
+                total,
+            ),
+            Call::BlockPoolDelete(n) => self.block_pool_delete(caller, n),
+            Call::BlockAllocate(n, wait) => self.block_allocate(caller, n, wait),
+            Call::BlockRelease(n, block) => self.block_release(n, block),
+            Call::BlockPoolPrioritize(n) => self.block_pool_prioritize(n),
             Call::ThreadStateRead(t) => self.thread_state_read(t),
             Call::ThreadWordsRead(t) => self.thread_words_read(t),
         }

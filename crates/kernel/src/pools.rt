@@ -1,6 +1,5 @@
 // Block pool services.
 ghost use mathlib.Core.Path.{_≡_};
-ghost use Prim.Native.Nat.{min};
 ghost use Rattle.calls.specs.Statuses.{success};
 ghost use Rattle.kernel.specs.Tables.{withPool};
 ghost use Rattle.kernel.specs.Answers.{answerOf, answered};
@@ -28,13 +27,6 @@ fn place(n: PoolId) -> Place
         state: ON_BLOCK,
         number: n.0,
     }
-}
-
-// A block's number as a byte; 64, which is no block, stands for all larger ones.
-fn block_of(block: u32) -> u8
-    ensures { λ r. ⌜ r ≡ min block 64 ⌝ }
-{
-    if block < 64 { block as u8 } else { 64 }
 }
 
 impl Kernel {
@@ -110,7 +102,7 @@ impl Kernel {
     }
 
     // The first in line gets the block, else it is free again.
-    pub fn released(mut self, n: PoolId, block: u8) -> Answer
+    pub fn block_release(mut self, n: PoolId, block: u8) -> Answer
         ensures { λ r. ⌜ r ≡ answerOf (blockRelease self (n .0) block) ⌝ }
     {
         let i = n.0 as usize;
@@ -131,13 +123,6 @@ impl Kernel {
             return self.carried(s.woken(f), SUCCESS, [0; 16], 1);
         }
         self.pool_carried(n, p.with_free(block), s, [0; 16], 0)
-    }
-
-    // A sound pool has no block past 63, so larger numbers count as 64.
-    pub fn block_release(self, n: PoolId, block: u32) -> Answer
-        ensures { λ r. ⌜ r ≡ answerOf (blockRelease self (n .0) (min block 64)) ⌝ }
-    {
-        self.released(n, block_of(block))
     }
 
     pub fn block_pool_prioritize(self, n: PoolId) -> Answer

@@ -16,17 +16,18 @@ use Rattle.calls.specs.Messages.{messageIn}
 use Rattle.calls.specs.Refusals.{finishedb}
 use Rattle.calls.specs.Statuses as Statuses
 use Rattle.calls.specs.declared.call.Call.{Call}
-use Rattle.calls.specs.declared.call.Call.the-variants.{ThreadCreate, ThreadDelete, ThreadResume, ThreadSuspend, ThreadTerminate, ThreadReset, ThreadFinish, ThreadRelinquish, ThreadSleep, ThreadWaitAbort, ThreadPriorityChange, ThreadPreemptionChange, TimeGet, TimeSet, Tick, SemaphoreCreate, SemaphoreDelete, SemaphoreGet, SemaphorePut, SemaphoreCeilingPut, SemaphorePrioritize, QueueCreate, QueueDelete, QueueSend, QueueFrontSend, QueueReceive, QueueFlush, QueuePrioritize, EventFlagsCreate, EventFlagsDelete, EventFlagsSet, EventFlagsGet, ThreadStateRead, ThreadWordsRead}
+use Rattle.calls.specs.declared.call.Call.the-variants.{ThreadCreate, ThreadDelete, ThreadResume, ThreadSuspend, ThreadTerminate, ThreadReset, ThreadFinish, ThreadRelinquish, ThreadSleep, ThreadWaitAbort, ThreadPriorityChange, ThreadPreemptionChange, TimeGet, TimeSet, Tick, SemaphoreCreate, SemaphoreDelete, SemaphoreGet, SemaphorePut, SemaphoreCeilingPut, SemaphorePrioritize, QueueCreate, QueueDelete, QueueSend, QueueFrontSend, QueueReceive, QueueFlush, QueuePrioritize, EventFlagsCreate, EventFlagsDelete, EventFlagsSet, EventFlagsGet, BlockPoolCreate, BlockPoolDelete, BlockAllocate, BlockRelease, BlockPoolPrioritize, ThreadStateRead, ThreadWordsRead}
 use Rattle.calls.specs.declared.call.Decoded.{Decoded}
 use Rattle.calls.specs.declared.call.Decoded.the-variants.{Known, Unknown}
 use Rattle.kernel.specs.declared.Kernel.{Kernel}
-use Rattle.kernel.specs.Tables.{threadOf, runnerOf, semaphoreAt, queueAt, groupAt}
+use Rattle.kernel.specs.Tables.{threadOf, runnerOf, semaphoreAt, queueAt, groupAt, poolAt}
 use Rattle.kernel.specs.Answers.{Outcome, refused, carried, guarded}
 use Rattle.kernel.specs.Threads
 use Rattle.kernel.specs.Clock
 use Rattle.kernel.specs.Semaphores
 use Rattle.kernel.specs.Queues
 use Rattle.kernel.specs.Groups
+use Rattle.kernel.specs.Pools
 use Rattle.kernel.specs.General.{service, byCaller, byRecord, step}
 use Rattle.kernel.specs.Sound.{Sound}
 use Rattle.kernel.specs.Claims.{doneb, Unchanged, Claims}
@@ -35,6 +36,7 @@ use Rattle.kernel.proofs.Laws.KeepsTicks
 use Rattle.kernel.proofs.Laws.KeepsSemaphores
 use Rattle.kernel.proofs.Laws.KeepsQueues
 use Rattle.kernel.proofs.Laws.KeepsGroups
+use Rattle.kernel.proofs.Laws.KeepsPools
 
 -- ---- soundness
 service-sound : (k : Kernel) → Sound k → (caller : ℕ) → (eqb caller 2 ≡ true → runnerOf k < 32) → (call : Call) (messages : List ℕ) → Sound (service k caller call messages .kernel)
@@ -71,6 +73,11 @@ service-sound k S caller runs (EventFlagsCreate n) messages = KeepsGroups.create
 service-sound k S caller runs (EventFlagsDelete n) messages = KeepsGroups.delete-sound k S caller (n .0)
 service-sound k S caller runs (EventFlagsSet n flags option) messages = KeepsGroups.set-sound k S (n .0) flags option
 service-sound k S caller runs (EventFlagsGet n request option wait) messages = KeepsGroups.get-sound k S caller runs (n .0) request option wait
+service-sound k S caller runs (BlockPoolCreate n block total) messages = KeepsPools.create-sound k S caller (n .0) block total
+service-sound k S caller runs (BlockPoolDelete n) messages = KeepsPools.delete-sound k S caller (n .0)
+service-sound k S caller runs (BlockAllocate n wait) messages = KeepsPools.allocate-sound k S caller runs (n .0) wait
+service-sound k S caller runs (BlockRelease n block) messages = KeepsPools.release-sound k S (n .0) block
+service-sound k S caller runs (BlockPoolPrioritize n) messages = KeepsPools.prioritize-sound k S (n .0)
 service-sound k S caller runs (ThreadStateRead t) messages = KeepsThreads.read-sound k S (t .0)
 service-sound k S caller runs (ThreadWordsRead t) messages = KeepsThreads.words-sound k S (t .0)
 
@@ -128,7 +135,7 @@ module _ (k : Kernel) where
   receive-done n wait = done-choice (emptyb (queueAt k n)) _ _ refl (done-choice (ltb (firstAt (k .scheduler) (Queues.queuePlace n)) 32) _ _ refl refl)
 
   service-plain : (caller : ℕ) (call : Call) (messages : List ℕ) → Plain (service k caller call messages)
-  unfolding service doneb carried Threads.threadCreate Threads.threadDelete Threads.threadResume Threads.lifted Threads.resumed Threads.threadSuspend Threads.threadTerminate Threads.threadReset Threads.threadFinish Threads.threadRelinquish Threads.threadSleep Threads.threadWaitAbort Threads.threadPriorityChange Threads.threadPreemptionChange Threads.threadStateRead Threads.threadWordsRead Clock.timeGet Clock.timeSet Clock.tick Semaphores.semaphoreCreate Semaphores.semaphoreDelete Semaphores.semaphoreGet Semaphores.semaphorePut Semaphores.semaphoreCeilingPut Semaphores.semaphorePrioritize Queues.queueCreate Queues.endQueue Queues.queueDelete Queues.queueSend Queues.queueReceive Queues.queueFlush Queues.queuePrioritize Groups.groupCreate Groups.groupDelete Groups.setOr Groups.setAnd Groups.groupSet Groups.groupGet
+  unfolding service doneb carried Threads.threadCreate Threads.threadDelete Threads.threadResume Threads.lifted Threads.resumed Threads.threadSuspend Threads.threadTerminate Threads.threadReset Threads.threadFinish Threads.threadRelinquish Threads.threadSleep Threads.threadWaitAbort Threads.threadPriorityChange Threads.threadPreemptionChange Threads.threadStateRead Threads.threadWordsRead Clock.timeGet Clock.timeSet Clock.tick Semaphores.semaphoreCreate Semaphores.semaphoreDelete Semaphores.semaphoreGet Semaphores.semaphorePut Semaphores.semaphoreCeilingPut Semaphores.semaphorePrioritize Queues.queueCreate Queues.endQueue Queues.queueDelete Queues.queueSend Queues.queueReceive Queues.queueFlush Queues.queuePrioritize Groups.groupCreate Groups.groupDelete Groups.setOr Groups.setAnd Groups.groupSet Groups.groupGet Pools.poolCreate Pools.poolDelete Pools.blockAllocate Pools.blockRelease Pools.poolPrioritize
   service-plain caller (ThreadCreate t p h start) messages = plain-or-done _ _ refl
   service-plain caller (ThreadDelete t) messages = plain-or-done _ _ refl
   service-plain caller (ThreadResume t) messages = plain-or-done _ _ (done-choice (threadOf k (t .0) .suspending) _ _ refl refl)
@@ -161,6 +168,11 @@ module _ (k : Kernel) where
   service-plain caller (EventFlagsDelete n) messages = plain-or-done _ _ refl
   service-plain caller (EventFlagsSet n flags option) messages = plain-or-done _ _ (done-choice (eqb option 0) _ _ refl refl)
   service-plain caller (EventFlagsGet n request option wait) messages = plain-or-done _ _ (done-choice (metb (groupAt k (n .0) .flags) request option) _ _ refl refl)
+  service-plain caller (BlockPoolCreate n block total) messages = plain-or-done _ _ refl
+  service-plain caller (BlockPoolDelete n) messages = plain-or-done _ _ refl
+  service-plain caller (BlockAllocate n wait) messages = plain-or-done _ _ (done-choice (ltb 0 (poolAt k (n .0) .free)) _ _ refl refl)
+  service-plain caller (BlockRelease n block) messages = plain-or-done _ _ (done-choice (ltb (firstAt (k .scheduler) (Pools.poolPlace (n .0))) 32) _ _ refl refl)
+  service-plain caller (BlockPoolPrioritize n) messages = plain-or-done _ _ refl
   service-plain caller (ThreadStateRead t) messages = plain-or-done _ _ refl
   service-plain caller (ThreadWordsRead t) messages = plain-or-done _ _ refl
 

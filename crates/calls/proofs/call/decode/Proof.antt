@@ -2,18 +2,22 @@ use mathlib.Core.Path.{_≡_, refl, sym, _∙_}
 use Prim.Native.Nat.{ℕ}
 use borrow.Author.Needs.{needs}
 use borrow.Author.Tests.{lt-ltb}
-use Rattle.calls.specs.Calls.{decoded, knownCall, threadNumber, semaphoreNumber, queueNumber, groupNumber}
+use Rattle.calls.specs.declared.call.Call.the-variants.{BlockRelease}
+use Rattle.calls.specs.declared.call.Decoded.the-variants.{Known}
+use Rattle.calls.specs.Calls.{decoded, knownCall, threadNumber, semaphoreNumber, queueNumber, groupNumber, poolNumber, blockNumber}
 use Rattle.calls.proofs.Laws.Calls.{decoded-as, unknown}
 use Rattle.calls.proofs.call.decode.Statement.{statement}
 use Rattle.calls.proofs.call.decode.Tie as tie
 use Rattle.calls.proofs.call.decode.Reads as reads
 use Rattle.calls.proofs.call.decode.Lts as lts
+use Rattle.calls.proofs.call.block_number.Reads as block-number-reads
 use Rattle.calls.proofs.call.group_id.Reads as group-id-reads
+use Rattle.calls.proofs.call.pool_id.Reads as pool-id-reads
 use Rattle.calls.proofs.call.queue_id.Reads as queue-id-reads
 use Rattle.calls.proofs.call.semaphore_id.Reads as semaphore-id-reads
 use Rattle.calls.proofs.call.thread_id.Reads as thread-id-reads
 
--- what the four calls before the match ask and ensure
+-- what the six calls before the match ask and ensure
 abbrev claims : lts.Claims
 claims = (
   thread-id-reads.Asked,
@@ -24,29 +28,40 @@ claims = (
   queue-id-reads.Learnt,
   group-id-reads.Asked,
   group-id-reads.Learnt,
+  pool-id-reads.Asked,
+  pool-id-reads.Learnt,
+  block-number-reads.Asked,
+  block-number-reads.Learnt,
 )
 
-module _ (k : lts.After-group-id claims reads.Pre reads.Post) where
+module _ (k : lts.After-block-number claims reads.Pre reads.Post) where
   -- the arguments
   abbrev x : lts.Args claims reads.Pre reads.Post
-  x = k .before .before .before .before .before .args
+  x = k .before .before .before .before .before .before .before .args
 
-  -- the four ids are those of the first argument
-  thread : k .before .before .before .thread-id .result ≡ threadNumber (x .a)
-  thread = λ i. record { 0 = k .before .before .before .thread-id .ensures i }
+  -- the five ids are those of the first argument
+  thread : k .before .before .before .before .before .thread-id .result ≡ threadNumber (x .a)
+  thread = λ i. record { 0 = k .before .before .before .before .before .thread-id .ensures i }
 
-  semaphore : k .before .before .semaphore-id .result ≡ semaphoreNumber (x .a)
-  semaphore = λ i. record { 0 = k .before .before .semaphore-id .ensures i }
+  semaphore : k .before .before .before .before .semaphore-id .result ≡ semaphoreNumber (x .a)
+  semaphore = λ i. record { 0 = k .before .before .before .before .semaphore-id .ensures i }
 
-  queue : k .before .queue-id .result ≡ queueNumber (x .a)
-  queue = λ i. record { 0 = k .before .queue-id .ensures i }
+  queue : k .before .before .before .queue-id .result ≡ queueNumber (x .a)
+  queue = λ i. record { 0 = k .before .before .before .queue-id .ensures i }
 
-  group : k .group-id .result ≡ groupNumber (x .a)
-  group = λ i. record { 0 = k .group-id .ensures i }
+  group : k .before .before .group-id .result ≡ groupNumber (x .a)
+  group = λ i. record { 0 = k .before .before .group-id .ensures i }
+
+  pool : k .before .pool-id .result ≡ poolNumber (x .a)
+  pool = λ i. record { 0 = k .before .pool-id .ensures i }
+
+  -- and the block is that of the second
+  block : k .block-number .result ≡ blockNumber (x .b)
+  block = k .block-number .ensures
 
   -- the caller is known: what is decoded is the call of the number
   known : (m : ℕ) → x .number ≡ m → knownCall m (x .a) (x .b) (x .c) (x .d) ≡ decoded (x .number) (x .caller) (x .a) (x .b) (x .c) (x .d)
-  known m e = sym (decoded-as (x .number) m (x .caller) (x .a) (x .b) (x .c) (x .d) (k .before .before .before .before .if1 .left) e)
+  known m e = sym (decoded-as (x .number) m (x .caller) (x .a) (x .b) (x .c) (x .d) (k .before .before .before .before .before .before .if1 .left) e)
 
 returns : tie.Need-returns
 unfolding decoded
@@ -63,6 +78,12 @@ queue-id-requires c κs = search needs
 
 group-id-requires : tie.Need-group-id-requires
 group-id-requires c κs = search needs
+
+pool-id-requires : tie.Need-pool-id-requires
+pool-id-requires c κs = search needs
+
+block-number-requires : tie.Need-block-number-requires
+block-number-requires c κs = search needs
 
 returns-2 : tie.Need-returns-2
 unfolding knownCall
@@ -194,15 +215,35 @@ returns-33 c = rw (group (c .before)) (known (c .before) 32 (c .match .keys32))
 
 returns-34 : tie.Need-returns-34
 unfolding knownCall
-returns-34 c = rw (thread (c .before)) (known (c .before) 38 (c .match .keys33))
+returns-34 c = rw (pool (c .before)) (known (c .before) 33 (c .match .keys33))
 
 returns-35 : tie.Need-returns-35
 unfolding knownCall
-returns-35 c = rw (thread (c .before)) (known (c .before) 39 (c .match .keys34))
+returns-35 c = rw (pool (c .before)) (known (c .before) 34 (c .match .keys34))
 
 returns-36 : tie.Need-returns-36
-returns-36 c =
-    let x = c .before .before .before .before .before .before .args in
+unfolding knownCall
+returns-36 c = rw (pool (c .before)) (known (c .before) 35 (c .match .keys35))
+
+returns-37 : tie.Need-returns-37
+unfolding knownCall
+returns-37 c = (λ i. Known (BlockRelease (pool (c .before) i) (block (c .before) i))) ∙ known (c .before) 36 (c .match .keys36)
+
+returns-38 : tie.Need-returns-38
+unfolding knownCall
+returns-38 c = rw (pool (c .before)) (known (c .before) 37 (c .match .keys37))
+
+returns-39 : tie.Need-returns-39
+unfolding knownCall
+returns-39 c = rw (thread (c .before)) (known (c .before) 38 (c .match .keys38))
+
+returns-40 : tie.Need-returns-40
+unfolding knownCall
+returns-40 c = rw (thread (c .before)) (known (c .before) 39 (c .match .keys39))
+
+returns-41 : tie.Need-returns-41
+returns-41 c =
+    let x = c .before .before .before .before .before .before .before .before .args in
     sym (unknown (x .number) (x .a) (x .b) (x .c) (x .d) (c .match .rest)) ∙ known (c .before) (x .number) refl
 
 pub decode-spec : {M : Type 1} → statement M
@@ -214,6 +255,8 @@ decode-spec =
     semaphore-id-requires
     queue-id-requires
     group-id-requires
+    pool-id-requires
+    block-number-requires
     returns-2
     returns-3
     returns-4
@@ -248,4 +291,9 @@ decode-spec =
     returns-33
     returns-34
     returns-35
-    returns-36)
+    returns-36
+    returns-37
+    returns-38
+    returns-39
+    returns-40
+    returns-41)

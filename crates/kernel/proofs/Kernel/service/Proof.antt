@@ -200,11 +200,41 @@ event-flags-get-requires c κs = search needs
 enum-known-call-29 : tie.Need-enum-known-call-29
 enum-known-call-29 c = search needs
 
-thread-state-read-requires : tie.Need-thread-state-read-requires
-thread-state-read-requires c κs = search needs
+block-pool-create-requires : tie.Need-block-pool-create-requires
+block-pool-create-requires c κs = search needs
 
 enum-known-call-30 : tie.Need-enum-known-call-30
 enum-known-call-30 c = search needs
+
+block-pool-delete-requires : tie.Need-block-pool-delete-requires
+block-pool-delete-requires c κs = search needs
+
+enum-known-call-31 : tie.Need-enum-known-call-31
+enum-known-call-31 c = search needs
+
+block-allocate-requires : tie.Need-block-allocate-requires
+block-allocate-requires c κs = search needs
+
+enum-known-call-32 : tie.Need-enum-known-call-32
+enum-known-call-32 c = search needs
+
+block-release-requires : tie.Need-block-release-requires
+block-release-requires c κs = search needs
+
+enum-known-call-33 : tie.Need-enum-known-call-33
+enum-known-call-33 c = search needs
+
+block-pool-prioritize-requires : tie.Need-block-pool-prioritize-requires
+block-pool-prioritize-requires c κs = search needs
+
+enum-known-call-34 : tie.Need-enum-known-call-34
+enum-known-call-34 c = search needs
+
+thread-state-read-requires : tie.Need-thread-state-read-requires
+thread-state-read-requires c κs = search needs
+
+enum-known-call-35 : tie.Need-enum-known-call-35
+enum-known-call-35 c = search needs
 
 thread-words-read-requires : tie.Need-thread-words-read-requires
 thread-words-read-requires c κs = search needs
@@ -339,11 +369,31 @@ returns-32 c = rw (c .before .before .call28 .given .1) (c .event-flags-get .ens
 
 returns-33 : tie.Need-returns-33
 unfolding service
-returns-33 c = rw (c .before .before .call29 .given .1) (c .thread-state-read .ensures)
+returns-33 c = rw (c .before .before .call29 .given .1) (c .block-pool-create .ensures)
 
 returns-34 : tie.Need-returns-34
 unfolding service
-returns-34 c = rw (c .before .before .call30 .given .1) (c .thread-words-read .ensures)
+returns-34 c = rw (c .before .before .call30 .given .1) (c .block-pool-delete .ensures)
+
+returns-35 : tie.Need-returns-35
+unfolding service
+returns-35 c = rw (c .before .before .call31 .given .1) (c .block-allocate .ensures)
+
+returns-36 : tie.Need-returns-36
+unfolding service
+returns-36 c = rw (c .before .before .call32 .given .1) (c .block-release .ensures)
+
+returns-37 : tie.Need-returns-37
+unfolding service
+returns-37 c = rw (c .before .before .call33 .given .1) (c .block-pool-prioritize .ensures)
+
+returns-38 : tie.Need-returns-38
+unfolding service
+returns-38 c = rw (c .before .before .call34 .given .1) (c .thread-state-read .ensures)
+
+returns-39 : tie.Need-returns-39
+unfolding service
+returns-39 c = rw (c .before .before .call35 .given .1) (c .thread-words-read .ensures)
 
 pub service-spec : {M : Type 1} → statement M
 service-spec =
@@ -414,8 +464,18 @@ service-spec =
     enum-known-call-28
     event-flags-get-requires
     enum-known-call-29
-    thread-state-read-requires
+    block-pool-create-requires
     enum-known-call-30
+    block-pool-delete-requires
+    enum-known-call-31
+    block-allocate-requires
+    enum-known-call-32
+    block-release-requires
+    enum-known-call-33
+    block-pool-prioritize-requires
+    enum-known-call-34
+    thread-state-read-requires
+    enum-known-call-35
     thread-words-read-requires
     returns
     returns-2
@@ -450,4 +510,9 @@ service-spec =
     returns-31
     returns-32
     returns-33
-    returns-34)
+    returns-34
+    returns-35
+    returns-36
+    returns-37
+    returns-38
+    returns-39)
