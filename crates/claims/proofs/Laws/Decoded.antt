@@ -6,7 +6,7 @@ use borrow.Author.Tests.{eqb-true}
 use Rattle.lines.proofs.Laws.Logic.{by-choice}
 use Rattle.calls.specs.Calls.{decoded, knownCall}
 use Rattle.calls.specs.declared.call.Call.{Call}
-use Rattle.calls.specs.declared.call.Call.the-variants.{ThreadCreate, ThreadDelete, ThreadResume, ThreadSuspend, ThreadTerminate, ThreadReset, ThreadFinish, ThreadRelinquish, ThreadSleep, ThreadWaitAbort, ThreadPriorityChange, ThreadPreemptionChange, TimeGet, TimeSet, Tick, SemaphoreCreate, SemaphoreDelete, SemaphoreGet, SemaphorePut, SemaphoreCeilingPut, SemaphorePrioritize, QueueCreate, QueueDelete, QueueSend, QueueFrontSend, QueueReceive, QueueFlush, QueuePrioritize, EventFlagsCreate, EventFlagsDelete, EventFlagsSet, EventFlagsGet, ThreadStateRead, ThreadWordsRead}
+use Rattle.calls.specs.declared.call.Call.the-variants.{ThreadCreate, ThreadDelete, ThreadResume, ThreadSuspend, ThreadTerminate, ThreadReset, ThreadFinish, ThreadRelinquish, ThreadSleep, ThreadWaitAbort, ThreadPriorityChange, ThreadPreemptionChange, TimeGet, TimeSet, Tick, SemaphoreCreate, SemaphoreDelete, SemaphoreGet, SemaphorePut, SemaphoreCeilingPut, SemaphorePrioritize, QueueCreate, QueueDelete, QueueSend, QueueFrontSend, QueueReceive, QueueFlush, QueuePrioritize, EventFlagsCreate, EventFlagsDelete, EventFlagsSet, EventFlagsGet, BlockPoolCreate, BlockPoolDelete, BlockAllocate, BlockRelease, BlockPoolPrioritize, ThreadStateRead, ThreadWordsRead}
 use Rattle.calls.specs.declared.call.Decoded.{Decoded}
 use Rattle.calls.specs.declared.call.Decoded.the-variants.{Known, Unknown}
 
@@ -44,6 +44,11 @@ Numbered n a (EventFlagsCreate g) = (n ≡ 29) × (g .0 ≡ min a 8)
 Numbered n a (EventFlagsDelete g) = (n ≡ 30) × (g .0 ≡ min a 8)
 Numbered n a (EventFlagsSet g flags option) = (n ≡ 31) × (g .0 ≡ min a 8)
 Numbered n a (EventFlagsGet g request option wait) = (n ≡ 32) × (g .0 ≡ min a 8)
+Numbered n a (BlockPoolCreate l block total) = (n ≡ 33) × (l .0 ≡ min a 4)
+Numbered n a (BlockPoolDelete l) = (n ≡ 34) × (l .0 ≡ min a 4)
+Numbered n a (BlockAllocate l wait) = (n ≡ 35) × (l .0 ≡ min a 4)
+Numbered n a (BlockRelease l block) = (n ≡ 36) × (l .0 ≡ min a 4)
+Numbered n a (BlockPoolPrioritize l) = (n ≡ 37) × (l .0 ≡ min a 4)
 Numbered n a (ThreadStateRead t) = (n ≡ 38) × (t .0 ≡ min a 32)
 Numbered n a (ThreadWordsRead t) = (n ≡ 39) × (t .0 ≡ min a 32)
 
@@ -86,9 +91,14 @@ known-is n a b c d =
     by-choice (Is n a) (eqb n 30) _ _ (λ e. (eqb-true n 30 e, refl)) (λ e30.
     by-choice (Is n a) (eqb n 31) _ _ (λ e. (eqb-true n 31 e, refl)) (λ e31.
     by-choice (Is n a) (eqb n 32) _ _ (λ e. (eqb-true n 32 e, refl)) (λ e32.
+    by-choice (Is n a) (eqb n 33) _ _ (λ e. (eqb-true n 33 e, refl)) (λ e33.
+    by-choice (Is n a) (eqb n 34) _ _ (λ e. (eqb-true n 34 e, refl)) (λ e34.
+    by-choice (Is n a) (eqb n 35) _ _ (λ e. (eqb-true n 35 e, refl)) (λ e35.
+    by-choice (Is n a) (eqb n 36) _ _ (λ e. (eqb-true n 36 e, refl)) (λ e36.
+    by-choice (Is n a) (eqb n 37) _ _ (λ e. (eqb-true n 37 e, refl)) (λ e37.
     by-choice (Is n a) (eqb n 38) _ _ (λ e. (eqb-true n 38 e, refl)) (λ e38.
     by-choice (Is n a) (eqb n 39) _ _ (λ e. (eqb-true n 39 e, refl)) (λ e39.
-    tt))))))))))))))))))))))))))))))))))
+    tt)))))))))))))))))))))))))))))))))))))))
 
 pub decoded-is : (n caller a b c d : ℕ) → Is n a (decoded n caller a b c d)
 unfolding decoded

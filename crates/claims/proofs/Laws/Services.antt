@@ -20,7 +20,7 @@ use Rattle.calls.specs.Held.{noHeld, noWords}
 use Rattle.calls.specs.Statuses as Statuses
 use Rattle.calls.specs.Refusals
 use Rattle.calls.specs.declared.call.Call.{Call}
-use Rattle.calls.specs.declared.call.Call.the-variants.{ThreadCreate, ThreadDelete, ThreadResume, ThreadSuspend, ThreadTerminate, ThreadReset, ThreadFinish, ThreadRelinquish, ThreadSleep, ThreadWaitAbort, ThreadPriorityChange, ThreadPreemptionChange, TimeGet, TimeSet, Tick, SemaphoreCreate, SemaphoreDelete, SemaphoreGet, SemaphorePut, SemaphoreCeilingPut, SemaphorePrioritize, QueueCreate, QueueDelete, QueueSend, QueueFrontSend, QueueReceive, QueueFlush, QueuePrioritize, EventFlagsCreate, EventFlagsDelete, EventFlagsSet, EventFlagsGet, ThreadStateRead, ThreadWordsRead}
+use Rattle.calls.specs.declared.call.Call.the-variants.{ThreadCreate, ThreadDelete, ThreadResume, ThreadSuspend, ThreadTerminate, ThreadReset, ThreadFinish, ThreadRelinquish, ThreadSleep, ThreadWaitAbort, ThreadPriorityChange, ThreadPreemptionChange, TimeGet, TimeSet, Tick, SemaphoreCreate, SemaphoreDelete, SemaphoreGet, SemaphorePut, SemaphoreCeilingPut, SemaphorePrioritize, QueueCreate, QueueDelete, QueueSend, QueueFrontSend, QueueReceive, QueueFlush, QueuePrioritize, EventFlagsCreate, EventFlagsDelete, EventFlagsSet, EventFlagsGet, BlockPoolCreate, BlockPoolDelete, BlockAllocate, BlockRelease, BlockPoolPrioritize, ThreadStateRead, ThreadWordsRead}
 use Rattle.kernel.specs.declared.Kernel.{Kernel}
 use Rattle.kernel.specs.Tables.{threadOf, runnerOf, semaphoreAt, queueAt}
 use Rattle.kernel.specs.Answers.{Outcome, refused, carried, guarded}
@@ -78,7 +78,7 @@ upsets-at : (p : Place) (m : Made) → upsetsb p m ≡ upsetsAt p (m .a) (m .num
 unfolding upsetsb onb
 upsets-at p m = refl
 
--- the object of a roll: a semaphore, or a queue on which receivers wait
+-- the object of a roll: a semaphore, a pool, or a queue on which receivers wait
 module _ (p : Place) (waits : 4 < p .state) (k : Kernel) (S : Sound k) (m : Made) (e : Entry) (es : List Entry) (R : Members.Rolls p k (e ∷ es))
     (flags : p .state ≡ 7 → ⊥) (low6 : p .state ≡ 6 → p .number < 16) (low5 : p .state ≡ 5 → p .number < 8) (low8 : p .state ≡ 8 → p .number < 4)
     (empty : (n : ℕ) → Queues.queuePlace n ≡ p → emptyb (queueAt k n) ≡ true) (room : (n : ℕ) → Queues.queuePlace n ≡ p → roomb (queueAt k n) ≡ true) where
@@ -123,7 +123,7 @@ module _ (p : Place) (waits : 4 < p .state) (k : Kernel) (S : Sound k) (m : Made
   pool-there : (l : ℕ) → l ≡ min (m .a) 4 → m .a ≡ p .number → p .state ≡ 8 → Pools.poolPlace l ≡ p
   pool-there l i a z = let w = low8 z in let y : l ≡ p .number = omega (arith, w, i, a) in λ j. record { state = sym z j; number = y j }
 
-  pub upset-pool : (j : ℕ) → (eqb j 34 || eqb j 37) ≡ true → (l : ℕ) → m .number ≡ j → l ≡ min (m .a) 4 → Pools.poolPlace l ≡ p → upsetsb p m ≡ true
+  upset-pool : (j : ℕ) → (eqb j 34 || eqb j 37) ≡ true → (l : ℕ) → m .number ≡ j → l ≡ min (m .a) 4 → Pools.poolPlace l ≡ p → upsetsb p m ≡ true
   upset-pool j t l n i z =
       let st : p .state ≡ 8 = sym (ap (λ (w : Place). w .state) z) in
       upsets-at p m ∙ rw (n, eq-eqb (m .a) (p .number) (pool-here l i z), st, t) refl
@@ -195,7 +195,7 @@ module _ (p : Place) (waits : 4 < p .state) (k : Kernel) (S : Sound k) (m : Made
           let st : p .state ≡ 5 = sym (ap (λ (w : Place). w .state) z) in
           gives-at p m ∙ rw (n, eq-eqb (m .a) (p .number) (queue-here q i z), st, t) refl
 
-  pub release-ok : (l block : ℕ) → m .number ≡ 36 → l ≡ min (m .a) 4 → Ok (Pools.blockRelease k l block)
+  release-ok : (l block : ℕ) → m .number ≡ 36 → l ≡ min (m .a) 4 → Ok (Pools.blockRelease k l block)
   unfolding Pools.blockRelease
   release-ok l block n i =
       by-test (givesb p m)
@@ -258,7 +258,7 @@ module _ (p : Place) (waits : 4 < p .state) (k : Kernel) (S : Sound k) (m : Made
   -- ---- every call, unless it upsets the line
   pub service-ok : (caller : ℕ) → (eqb caller 2 ≡ true → runnerOf k < 32) → (call : Call) (messages : List ℕ) → Numbered (m .number) (m .a) call
       → (upsetsb p m ≡ true → service k caller call messages .status ≡ 0 → ⊥) → Ok (service k caller call messages)
-  unfolding service carried Semaphores.semaphoreDelete Semaphores.semaphorePut Semaphores.semaphoreCeilingPut Semaphores.semaphorePrioritize Queues.queueDelete Queues.endQueue Queues.queuePrioritize Threads.threadStateRead Threads.threadWordsRead
+  unfolding service carried Semaphores.semaphoreDelete Semaphores.semaphorePut Semaphores.semaphoreCeilingPut Semaphores.semaphorePrioritize Queues.queueDelete Queues.endQueue Queues.queuePrioritize Pools.poolDelete Pools.poolPrioritize Threads.threadStateRead Threads.threadWordsRead
   service-ok caller runs (ThreadCreate t pr h start) messages i calm = Steps.quiet-ok p waits k S m e es R (service k caller (ThreadCreate t pr h start) messages) (Quiet.create-quiet p waits k S caller (t .0) pr h start) (ap Steps.quietb (i .0))
   service-ok caller runs (ThreadDelete t) messages i calm = Steps.quiet-ok p waits k S m e es R (service k caller (ThreadDelete t) messages) (Quiet.delete-quiet p waits k S caller (t .0)) (ap Steps.quietb (i .0))
   service-ok caller runs (ThreadResume t) messages i calm = Steps.quiet-ok p waits k S m e es R (service k caller (ThreadResume t) messages) (Quiet.resume-quiet p waits k S (t .0)) (ap Steps.quietb (i .0))
@@ -291,5 +291,10 @@ module _ (p : Place) (waits : 4 < p .state) (k : Kernel) (S : Sound k) (m : Made
   service-ok caller runs (EventFlagsDelete g) messages i calm = Steps.quiet-ok p waits k S m e es R (service k caller (EventFlagsDelete g) messages) (Quiet.group-delete-quiet p waits k S (g .0) (no-group (g .0)) caller) (ap Steps.quietb (i .0))
   service-ok caller runs (EventFlagsSet g flags option) messages i calm = Steps.quiet-ok p waits k S m e es R (service k caller (EventFlagsSet g flags option) messages) (Quiet.group-set-quiet p waits k S (g .0) (no-group (g .0)) flags option) (ap Steps.quietb (i .0))
   service-ok caller runs (EventFlagsGet g request option wait) messages i calm = Steps.quiet-ok p waits k S m e es R (service k caller (EventFlagsGet g request option wait) messages) (Quiet.group-get-quiet p waits k S (g .0) (no-group (g .0)) caller runs request option wait) (ap Steps.quietb (i .0))
+  service-ok caller runs (BlockPoolCreate l block total) messages i calm = Steps.quiet-ok p waits k S m e es R (service k caller (BlockPoolCreate l block total) messages) (Quiet.pool-create-quiet p waits k S (l .0) caller block total) (ap Steps.quietb (i .0))
+  service-ok caller runs (BlockPoolDelete l) messages i calm = upset-ok _ _ refl (λ u. Quiet.pool-delete-quiet p waits k S (l .0) (λ z. never (upset-pool 34 refl (l .0) (i .0) (i .1) z) u) caller) calm (ap Steps.quietb (i .0))
+  service-ok caller runs (BlockAllocate l wait) messages i calm = Steps.quiet-ok p waits k S m e es R (service k caller (BlockAllocate l wait) messages) (Quiet.allocate-quiet p waits k S (l .0) caller runs wait) (ap Steps.quietb (i .0))
+  service-ok caller runs (BlockRelease l block) messages i calm = release-ok (l .0) block (i .0) (i .1)
+  service-ok caller runs (BlockPoolPrioritize l) messages i calm = upset-ok _ _ refl (λ u. Quiet.pool-prioritize-quiet p waits k S (l .0) (λ z. never (upset-pool 37 refl (l .0) (i .0) (i .1) z) u)) calm (ap Steps.quietb (i .0))
   service-ok caller runs (ThreadStateRead t) messages i calm = Steps.quiet-ok p waits k S m e es R (service k caller (ThreadStateRead t) messages) (Quiet.same-quiet p waits k S k (Still.still-same p k T) _ _ _) (ap Steps.quietb (i .0))
   service-ok caller runs (ThreadWordsRead t) messages i calm = Steps.quiet-ok p waits k S m e es R (service k caller (ThreadWordsRead t) messages) (Quiet.same-quiet p waits k S k (Still.still-same p k T) _ _ _) (ap Steps.quietb (i .0))

@@ -14,24 +14,26 @@ use Rattle.lines.proofs.Laws.Logic.{by-test, by-choice, never, and-left, and-ri
 use Rattle.scheduler.specs.declared.thread.Place.{Place}
 use Rattle.scheduler.specs.Orders.{lineAt, firstAt}
 use Rattle.objects.specs.Queues.{emptyb, roomb}
-use Rattle.calls.specs.Held.{noWords, noHeld, holding}
+use Rattle.calls.specs.Held.{noWords, oneWord, noHeld, holding}
 use Rattle.calls.specs.Messages.{messageIn}
 use Rattle.calls.specs.Statuses as Statuses
-use Rattle.calls.specs.Calls.{decoded, knownCall, semaphoreNumber, queueNumber}
+use Rattle.calls.specs.Calls.{decoded, knownCall, semaphoreNumber, queueNumber, poolNumber, blockNumber}
 use Rattle.calls.specs.declared.call.Call.{Call}
-use Rattle.calls.specs.declared.call.Call.the-variants.{SemaphoreGet, SemaphorePut, SemaphoreCeilingPut, QueueSend, QueueFrontSend, QueueReceive}
+use Rattle.calls.specs.declared.call.Call.the-variants.{SemaphoreGet, SemaphorePut, SemaphoreCeilingPut, QueueSend, QueueFrontSend, QueueReceive, BlockAllocate, BlockRelease}
 use Rattle.calls.specs.declared.call.Decoded.{Decoded}
 use Rattle.calls.specs.declared.call.Decoded.the-variants.{Known, Unknown}
-use Rattle.waiting.specs.Fit.{semaphoreWaitb}
+use Rattle.waiting.specs.Fit.{semaphoreWaitb, poolWaitb}
 use Rattle.kernel.specs.declared.Kernel.{Kernel}
 use Rattle.kernel.specs.declared.Answer.{Answer}
-use Rattle.kernel.specs.Tables.{runnerOf, heldAt, semaphoreAt, queueAt, withHeld, withScheduler}
+use Rattle.kernel.specs.Tables.{runnerOf, heldAt, semaphoreAt, queueAt, poolAt, withHeld, withScheduler}
 use Rattle.kernel.specs.Answers.{Outcome, answerOf, refused, carried, guarded}
 use Rattle.kernel.specs.Waits.{endWait}
 use Rattle.kernel.specs.General as General
 use Rattle.kernel.specs.Semaphores as Semaphores
 use Rattle.kernel.specs.Queues as Queues
+use Rattle.kernel.specs.Pools as Pools
 use Rattle.kernel.specs.Sound.{Sound}
+use Rattle.kernel.proofs.Laws.KeepsPools
 use Rattle.claims.specs.Lists.{Made, answer, next}
 use Rattle.claims.specs.Rolls.{Entry, onb, givesb, takesb, doneb, objectb, givenWords}
 use Rattle.claims.proofs.Laws.Members
@@ -50,10 +52,6 @@ module _ (k : Kernel) (P : Outcome → Type 0) (ref : (s : ℕ) → eqb s 0 ≡ 
       by-choice (λ (d : Decoded). P (General.byRecord k caller d messages)) (ltb 2 caller) Unknown (Known call)
       (λ z. ref Statuses.unknownCall refl)
       (λ z. by-choice P (eqb caller 2 && not (ltb (runnerOf k) 32)) (refused k Statuses.nobodyRuns) (General.service k caller call messages) (λ w. ref Statuses.nobodyRuns refl) (λ w. f))
-
-  unknown-by : (caller : ℕ) (messages : List ℕ) → P (General.byRecord k caller (if ltb 2 caller then Unknown else Unknown) messages)
-  unfolding General.byRecord
-  unknown-by caller messages = by-choice (λ (d : Decoded). P (General.byRecord k caller d messages)) (ltb 2 caller) Unknown Unknown (λ z. ref Statuses.unknownCall refl) (λ z. ref Statuses.unknownCall refl)
 
 -- ---- taking
 -- not done
@@ -79,9 +77,12 @@ module _ (k : Kernel) (caller a b c d : ℕ) (messages : List ℕ) where
       (guarded-by k Undone (refused-undone k) _ _
       (by-choice Undone (emptyb (queueAt k (min a 8))) _ _ (λ w. refl) (λ w. never z w)))
 
-  allocate-undone : Undone (General.step k 35 caller a b c d messages)
-  unfolding General.step decoded knownCall
-  allocate-undone = unknown-by k Undone (refused-undone k) caller messages
+  allocate-undone : poolAt k (min a 4) .free ≡ 0 → Undone (General.step k 35 caller a b c d messages)
+  unfolding General.step General.service decoded knownCall Pools.blockAllocate carried
+  allocate-undone z =
+      known-by k Undone (refused-undone k) caller (BlockAllocate (poolNumber a) b) messages
+      (guarded-by k Undone (refused-undone k) _ _
+      (by-choice Undone (ltb 0 (poolAt k (min a 4) .free)) _ _ (λ w. absurd (let l = ltb-true 0 (poolAt k (min a 4) .free) w in omega (arith, l, z))) (λ w. refl)))
 
 -- which taking call it is
 takes-by : {P : Type 0} (p : Place) (m : Made) → takesb p m ≡ true → (p .state ≡ 6 → m .number ≡ 18 → P) → (p .state ≡ 5 → m .number ≡ 26 → P) → (p .state ≡ 8 → m .number ≡ 35 → P) → P
@@ -137,6 +138,10 @@ module _ (p : Place) (o : objectb p ≡ true) (t : ℕ) (k : Kernel) (m : Made) 
   unfolding semaphoreWaitb
   count-none z = eqb-true (semaphoreAt k (p .number) .count) 0 (and-right (semaphoreAt k (p .number) .created) (eqb (semaphoreAt k (p .number) .count) 0) (Rolls.semaphore-waits p k S t here z))
 
+  free-none : p .state ≡ 8 → poolAt k (p .number) .free ≡ 0
+  unfolding poolWaitb
+  free-none z = eqb-true (poolAt k (p .number) .free) 0 (and-right (poolAt k (p .number) .created) (eqb (poolAt k (p .number) .free) 0) (Rolls.pool-waits p k S t here z))
+
   taking-undone : takesb p m ≡ true → Undone (at (m .number))
   taking-undone g =
       let a = takes-on p m g in
@@ -147,7 +152,9 @@ module _ (p : Place) (o : objectb p ≡ true) (t : ℕ) (k : Kernel) (m : Made) 
       (λ z n. let l = Rolls.queue-low p k S t here z in
       let i : min (m .a) 8 ≡ p .number = omega (arith, l, a) in
       ap (λ (x : ℕ). eqb (at x .status) 0) n ∙ receive-undone k (m .caller) (m .a) (m .b) (m .c) (m .d) (m .messages) (ap (λ (x : ℕ). emptyb (queueAt k x)) i ∙ Rolls.queue-empty p k S t here z (L .receives z)))
-      (λ z n. ap (λ (x : ℕ). eqb (at x .status) 0) n ∙ allocate-undone k (m .caller) (m .a) (m .b) (m .c) (m .d) (m .messages))
+      (λ z n. let l = Rolls.pool-low p k S t here z in
+      let i : min (m .a) 4 ≡ p .number = omega (arith, l, a) in
+      ap (λ (x : ℕ). eqb (at x .status) 0) n ∙ allocate-undone k (m .caller) (m .a) (m .b) (m .c) (m .d) (m .messages) (ap (λ (x : ℕ). poolAt k x .free) i ∙ free-none z))
 
   pub none-taken : (takesb p m && doneb (answer k m)) ≡ false
   unfolding doneb answerOf
@@ -197,6 +204,14 @@ module _ (p : Place) (o : objectb p ≡ true) (t : ℕ) (k : Kernel) (m : Made) 
       (λ w. never (lt-ltb _ 32 (first-low (Queues.queuePlace n) z)) w))
       (λ f. never (Rolls.room-at p k S t here (L .receives) n z) f)
 
+  release-holds : (n block : ℕ) → Pools.poolPlace n ≡ p → Holds (oneWord block) (Pools.blockRelease k n block)
+  unfolding Pools.blockRelease
+  release-holds n block z =
+      guarded-by k (Holds (oneWord block)) (refused-holds (oneWord block)) _ _
+      (by-choice (Holds (oneWord block)) (ltb (firstAt (k .scheduler) (Pools.poolPlace n)) 32) _ _
+      (λ f. end-holds (Pools.poolPlace n) z (oneWord block) _)
+      (λ f. never (lt-ltb _ 32 (first-low (Pools.poolPlace n) z)) f))
+
   module _ (on : m .a ≡ p .number) where
     semaphore-there : p .state ≡ 6 → Semaphores.semaphorePlace (min (m .a) 16) ≡ p
     semaphore-there z = let l = Rolls.semaphore-low p k S t here z in let y : min (m .a) 16 ≡ p .number = omega (arith, l, on) in λ j. record { state = sym z j; number = y j }
@@ -226,9 +241,14 @@ module _ (p : Place) (o : objectb p ≡ true) (t : ℕ) (k : Kernel) (m : Made) 
     unfolding General.step General.service decoded knownCall Queues.queueSend
     send-25 z = known-by k (Holds message) (refused-holds message) (m .caller) (QueueFrontSend (queueNumber (m .a)) (m .b) (m .c)) (m .messages) (guarded-by k (Holds message) (refused-holds message) _ _ (send-holds (min (m .a) 8) (m .b) true message (queue-there z)))
 
-    release-36 : (words : List ℕ) → Holds words (at 36)
-    unfolding General.step decoded knownCall
-    release-36 words = unknown-by k (Holds words) (refused-holds words) (m .caller) (m .messages)
+    pool-there : p .state ≡ 8 → Pools.poolPlace (min (m .a) 4) ≡ p
+    pool-there z = let l = Rolls.pool-low p k S t here z in let y : min (m .a) 4 ≡ p .number = omega (arith, l, on) in λ j. record { state = sym z j; number = y j }
+
+    release-36 : p .state ≡ 8 → Holds (oneWord (m .b)) (at 36)
+    unfolding General.step General.service decoded knownCall
+    release-36 z =
+        known-by k (Holds (oneWord (m .b))) (refused-holds (oneWord (m .b))) (m .caller) (BlockRelease (poolNumber (m .a)) (blockNumber (m .b))) (m .messages)
+        (subst (Holds (oneWord (m .b))) (sym (KeepsPools.release-number k S (min (m .a) 4) (m .b))) (release-holds (min (m .a) 4) (m .b) (pool-there z)))
 
   words-6 : p .state ≡ 6 → givenWords p k m ≡ noWords
   unfolding givenWords
@@ -237,6 +257,10 @@ module _ (p : Place) (o : objectb p ≡ true) (t : ℕ) (k : Kernel) (m : Made) 
   words-5 : p .state ≡ 5 → givenWords p k m ≡ messageIn (m .messages) (m .c) (queueAt k (p .number) .words)
   unfolding givenWords
   words-5 z = rw z refl
+
+  words-8 : p .state ≡ 8 → givenWords p k m ≡ oneWord (m .b)
+  unfolding givenWords
+  words-8 z = rw z refl
 
   -- with another number and other words for the same
   as-given : (n : ℕ) (words : List ℕ) → m .number ≡ n → givenWords p k m ≡ words → Holds words (at n) → Holds (givenWords p k m) (at (m .number))
@@ -250,7 +274,7 @@ module _ (p : Place) (o : objectb p ≡ true) (t : ℕ) (k : Kernel) (m : Made) 
       (λ z n. as-given 20 noWords n (words-6 z) (put-20 on z))
       (λ z n. as-given 24 (message on) n (words-5 z ∙ sym (ap (λ (x : ℕ). messageIn (m .messages) (m .c) (queueAt k x .words)) (queue-number on z))) (send-24 on z))
       (λ z n. as-given 25 (message on) n (words-5 z ∙ sym (ap (λ (x : ℕ). messageIn (m .messages) (m .c) (queueAt k x .words)) (queue-number on z))) (send-25 on z))
-      (λ z n. as-given 36 (givenWords p k m) n refl (release-36 on (givenWords p k m)))
+      (λ z n. as-given 36 (oneWord (m .b)) n (words-8 z) (release-36 on z))
 
   pub first-holds : givesb p m ≡ true → doneb (answer k m) ≡ true → heldAt (next k m) (e .thread) ≡ holding Statuses.success (givenWords p k m)
   unfolding doneb next answerOf
