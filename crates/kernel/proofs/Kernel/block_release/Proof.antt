@@ -1,55 +1,33 @@
 use mathlib.Core.Path.{_≡_, sym, ap, _∙_}
-use native.Mathlib.Omega.{arith}
 use borrow.Author.Needs.{needs}
 use borrow.Author.Tests.{lt-ltb, le-ltb}
-use lib.ListN.{length}
 use Rattle.scheduler.specs.Orders.{firstAt}
-use Rattle.scheduler.proofs.Laws.Threads.{length-mapped}
 use Rattle.objects.specs.declared.pool.Pool.{Pool}
-use Rattle.objects.specs.Pools.{noPool, withFree}
-use Rattle.calls.specs.Refusals.{unless, firstOf, releaseRefusal}
+use Rattle.objects.specs.Pools.{withFree}
+use Rattle.calls.specs.Refusals.{releaseRefusal}
 use Rattle.kernel.specs.Tables.{poolAt, withScheduler, withHeld, withPool}
-use Rattle.kernel.specs.Answers.{answerOf, carried, answered}
+use Rattle.kernel.specs.Answers.{answerOf, refused, carried, answered}
 use Rattle.kernel.specs.Waits.{endWait}
 use Rattle.kernel.specs.Pools.{poolPlace, blockRelease}
-use Rattle.kernel.proofs.Laws.Answers.{is-carried, refused-for, pool-none, pool-in}
+use Rattle.kernel.proofs.Laws.Answers.{is-refused, is-carried}
 use Rattle.kernel.proofs.Kernel.block_release.Statement.{statement}
 use Rattle.kernel.proofs.Kernel.block_release.Tie as tie
 
-cast-i : tie.Need-cast-i
-cast-i c = search needs
+pool-in-requires : tie.Need-pool-in-requires
+pool-in-requires c κs = search needs
+
+release-requires : tie.Need-release-requires
+release-requires c κs = search needs
 
 refused-requires : tie.Need-refused-requires
 refused-requires c κs = search needs
 
 returns : tie.Need-returns
-unfolding blockRelease releaseRefusal firstOf unless noPool
+unfolding blockRelease poolAt
 returns c =
-    let a = c .before .before .before .args in
-    let l : length (a .t1 .pools) ≡ 4 = length-mapped _ (a .t1 .pools) 4 (c .before .before .before .good .0 .1 .1 .1 .1 .1 .1 .1 .0 .1 .0 .1) in
-    let e : releaseRefusal (poolAt (a .t1) (a .n .0)) (a .block) ≡ 2 = ap (λ (x : Pool). releaseRefusal x (a .block)) (pool-none (a .t1) (a .n .0) l (c .before .if1 .taken)) in
-    c .refused .ensures ∙ ap answerOf (refused-for (a .t1) (releaseRefusal (poolAt (a .t1) (a .n .0)) (a .block)) 2 _ e (λ z. omega (arith, z)))
-
-mul-p : tie.Need-mul-p
-mul-p c = search needs
-
-element-copy-out-p : tie.Need-element-copy-out-p
-element-copy-out-p c = search needs
-
-release-requires : tie.Need-release-requires
-release-requires c κs = search needs
-
-refused-requires-2 : tie.Need-refused-requires-2
-refused-requires-2 c κs = search needs
-
-returns-2 : tie.Need-returns-2
-unfolding blockRelease
-returns-2 c =
-    let a = c .before .before .before .before .before .before .args in
-    let l : length (a .t1 .pools) ≡ 4 = length-mapped _ (a .t1 .pools) 4 (c .before .before .before .before .before .before .good .0 .1 .1 .1 .1 .1 .1 .1 .0 .1 .0 .1) in
-    let i = pool-in (a .t1) (a .n .0) _ l (c .before .before .before .before .if1 .left) in
-    let e = c .before .before .release .ensures ∙ ap (λ (x : Pool). releaseRefusal x (a .block)) i in
-    c .refused2 .ensures ∙ ap answerOf (refused-for (a .t1) (releaseRefusal (poolAt (a .t1) (a .n .0)) (a .block)) (c .before .before .release .result) _ (sym e) (c .before .if2 .taken))
+    let a = c .before .before .before .before .before .args in
+    let e = c .before .before .release .ensures ∙ ap (λ (x : Pool). releaseRefusal x (a .block)) (c .before .before .before .pool-in .ensures) in
+    c .refused .ensures ∙ ap answerOf (ap (refused (a .t1)) e ∙ sym (is-refused (a .t1) (releaseRefusal (poolAt (a .t1) (a .n .0)) (a .block)) _ (λ w. c .before .if1 .taken (e ∙ w))))
 
 place-requires : tie.Need-place-requires
 place-requires c κs = search needs
@@ -57,8 +35,8 @@ place-requires c κs = search needs
 first-at-requires : tie.Need-first-at-requires
 first-at-requires c κs = search needs
 
-cast-t : tie.Need-cast-t
-cast-t c = search needs
+cast-i : tie.Need-cast-i
+cast-i c = search needs
 
 two-words-requires : tie.Need-two-words-requires
 two-words-requires c κs = search needs
@@ -78,57 +56,54 @@ woken-requires c κs = search needs
 carried-requires : tie.Need-carried-requires
 carried-requires c κs = search needs
 
-returns-3 : tie.Need-returns-3
-unfolding blockRelease endWait answerOf carried answered withHeld withScheduler
-returns-3 c =
-    let a = c .before .before .before .before .before .before .before .before .before .before .before .before .before .before .args in
-    let l : length (a .t1 .pools) ≡ 4 = length-mapped _ (a .t1 .pools) 4 (c .before .before .before .before .before .before .before .before .before .before .before .before .before .before .good .0 .1 .1 .1 .1 .1 .1 .1 .0 .1 .0 .1) in
-    let i = pool-in (a .t1) (a .n .0) _ l (c .before .before .before .before .before .before .before .before .before .before .before .before .if1 .left) in
-    let e = c .before .before .before .before .before .before .before .before .before .before .release .ensures ∙ ap (λ (x : Pool). releaseRefusal x (a .block)) i in
-    let z : releaseRefusal (poolAt (a .t1) (a .n .0)) (a .block) ≡ 0 = sym e ∙ c .before .before .before .before .before .before .before .before .before .if2 .left in
+returns-2 : tie.Need-returns-2
+unfolding blockRelease endWait answerOf carried answered withHeld withScheduler poolAt
+returns-2 c =
+    let a = c .before .before .before .before .before .before .before .before .before .before .before .before .before .args in
+    let e = c .before .before .before .before .before .before .before .before .before .before .release .ensures ∙ ap (λ (x : Pool). releaseRefusal x (a .block)) (c .before .before .before .before .before .before .before .before .before .before .before .pool-in .ensures) in
+    let z : releaseRefusal (poolAt (a .t1) (a .n .0)) (a .block) ≡ 0 = sym e ∙ c .before .before .before .before .before .before .before .before .before .if1 .left in
     let f : c .before .before .before .before .before .before .first-at .result .0 ≡ firstAt (a .t1 .scheduler) (poolPlace (a .n .0)) = c .before .before .before .before .before .before .first-at .ensures ∙ ap (firstAt (a .t1 .scheduler)) (c .before .before .before .before .before .before .before .place .ensures) in
-    rw (is-carried, ← f, lt-ltb (c .before .before .before .before .before .before .first-at .result .0) 32 (c .before .before .before .before .if3 .taken)) (c .carried .ensures ∙ rw (c .before .woken .ensures, c .before .before .of .ensures, c .before .before .before .two-words .ensures))
+    rw (is-carried, ← f, lt-ltb (c .before .before .before .before .before .before .first-at .result .0) 32 (c .before .before .before .before .if2 .taken)) (c .carried .ensures ∙ rw (c .before .woken .ensures, c .before .before .of .ensures, c .before .before .before .two-words .ensures))
 
 with-free-requires : tie.Need-with-free-requires
 with-free-requires c κs = search needs
 
-pool-carried-requires : tie.Need-pool-carried-requires
-pool-carried-requires c κs = search needs
+pools-with-requires : tie.Need-pools-with-requires
+pools-with-requires c κs = search needs
 
-returns-4 : tie.Need-returns-4
-unfolding blockRelease answerOf carried answered withScheduler withPool
-returns-4 c =
+carried-requires-2 : tie.Need-carried-requires-2
+carried-requires-2 c κs = search needs
+
+returns-3 : tie.Need-returns-3
+unfolding blockRelease answerOf carried answered withScheduler withPool poolAt
+returns-3 c =
     let a = c .before .before .before .before .before .before .before .before .before .before .before .before .args in
-    let l : length (a .t1 .pools) ≡ 4 = length-mapped _ (a .t1 .pools) 4 (c .before .before .before .before .before .before .before .before .before .before .before .before .good .0 .1 .1 .1 .1 .1 .1 .1 .0 .1 .0 .1) in
-    let i = pool-in (a .t1) (a .n .0) _ l (c .before .before .before .before .before .before .before .before .before .before .if1 .left) in
-    let e = c .before .before .before .before .before .before .before .before .release .ensures ∙ ap (λ (x : Pool). releaseRefusal x (a .block)) i in
-    let z : releaseRefusal (poolAt (a .t1) (a .n .0)) (a .block) ≡ 0 = sym e ∙ c .before .before .before .before .before .before .before .if2 .left in
-    let f : c .before .before .before .before .first-at .result .0 ≡ firstAt (a .t1 .scheduler) (poolPlace (a .n .0)) = c .before .before .before .before .first-at .ensures ∙ ap (firstAt (a .t1 .scheduler)) (c .before .before .before .before .before .place .ensures) in
-    let w = c .before .with-free .ensures ∙ ap (λ (x : Pool). withFree x (a .block)) i in
-    rw (is-carried, ← f, le-ltb (c .before .before .before .before .first-at .result .0) 32 (c .before .before .if3 .left)) (c .pool-carried .ensures ∙ rw w)
+    let i = c .before .before .before .before .before .before .before .before .before .before .pool-in .ensures in
+    let e = c .before .before .before .before .before .before .before .before .before .release .ensures ∙ ap (λ (x : Pool). releaseRefusal x (a .block)) i in
+    let z : releaseRefusal (poolAt (a .t1) (a .n .0)) (a .block) ≡ 0 = sym e ∙ c .before .before .before .before .before .before .before .before .if1 .left in
+    let f : c .before .before .before .before .before .first-at .result .0 ≡ firstAt (a .t1 .scheduler) (poolPlace (a .n .0)) = c .before .before .before .before .before .first-at .ensures ∙ ap (firstAt (a .t1 .scheduler)) (c .before .before .before .before .before .before .place .ensures) in
+    let w = c .before .before .with-free .ensures ∙ ap (λ (x : Pool). withFree x (a .block)) i in
+    rw (is-carried, ← f, le-ltb (c .before .before .before .before .before .first-at .result .0) 32 (c .before .before .before .if2 .left)) (c .carried2 .ensures ∙ rw (c .before .pools-with .ensures, w))
 
 pub block-release-spec : {M : Type 1} → statement M
 block-release-spec =
     tie.close
     (tie.spec
-    cast-i
+    pool-in-requires
+    release-requires
     refused-requires
     returns
-    mul-p
-    element-copy-out-p
-    release-requires
-    refused-requires-2
-    returns-2
     place-requires
     first-at-requires
-    cast-t
+    cast-i
     two-words-requires
     of-requires
     mul-h
     element-set-from-h
     woken-requires
     carried-requires
-    returns-3
+    returns-2
     with-free-requires
-    pool-carried-requires
-    returns-4)
+    pools-with-requires
+    carried-requires-2
+    returns-3)
