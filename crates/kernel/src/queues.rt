@@ -1,6 +1,8 @@
 // Queue services.
 ghost use mathlib.Core.Path.{_≡_};
 ghost use mathlib.Core.Bool.{true, false};
+ghost use lib.ListN.{getD};
+ghost use Rattle.objects.specs.Queues.{noQueue};
 ghost use Rattle.calls.specs.Statuses.{success};
 ghost use Rattle.calls.specs.Messages.{messageIn};
 ghost use Rattle.kernel.specs.Tables.{withQueue};
@@ -12,7 +14,6 @@ use calls::held::Held;
 use calls::message::message_in;
 use calls::refusal;
 use calls::status::DELETED;
-use calls::status::QUEUE_ERROR;
 use calls::status::SUCCESS;
 use calls::status::WAITING;
 use objects::queue::Queue;
@@ -20,6 +21,14 @@ use objects::queue::QueueId;
 use scheduler::Scheduler;
 use scheduler::thread::ON_QUEUE;
 use scheduler::thread::Place;
+
+// The record of queue `n`, that of an uncreated one past the table.
+fn queue_in(all: [Queue; 8], n: QueueId) -> Queue
+    ensures { λ r. ⌜ r ≡ getD all (n .0) noQueue ⌝ }
+{
+    let i = n.0 as usize;
+    if i < 8 { all[i] } else { Queue::none() }
+}
 
 // Where the waiters of a queue stand.
 fn place(n: QueueId) -> Place
@@ -66,11 +75,8 @@ impl Kernel {
     pub fn queue_create(self, caller: u32, n: QueueId, words: u32, storage: u32) -> Answer
         ensures { λ r. ⌜ r ≡ answerOf (queueCreate self caller (n .0) words storage) ⌝ }
     {
-        let i = n.0 as usize;
-        if 8 <= i {
-            return self.refused(QUEUE_ERROR);
-        }
-        let reason = refusal::queue_create(n, self.queues[i], words, storage, caller);
+        let all = self.queues;
+        let reason = refusal::queue_create(n, queue_in(all, n), words, storage, caller);
         if reason != 0 {
             return self.refused(reason);
         }
@@ -81,11 +87,8 @@ impl Kernel {
     pub fn queue_delete(self, caller: u32, n: QueueId) -> Answer
         ensures { λ r. ⌜ r ≡ answerOf (queueDelete self caller (n .0)) ⌝ }
     {
-        let i = n.0 as usize;
-        if 8 <= i {
-            return self.refused(QUEUE_ERROR);
-        }
-        let reason = refusal::queue_delete(self.queues[i], caller);
+        let all = self.queues;
+        let reason = refusal::queue_delete(queue_in(all, n), caller);
         if reason != 0 {
             return self.refused(reason);
         }
@@ -122,11 +125,8 @@ impl Kernel {
     ) -> Answer
         ensures { λ r. ⌜ r ≡ answerOf (queueSend self caller (n .0) wait index front (now (messages .entry))) ⌝ }
     {
-        let i = n.0 as usize;
-        if 8 <= i {
-            return self.refused(QUEUE_ERROR);
-        }
-        let q = self.queues[i];
+        let all = self.queues;
+        let q = queue_in(all, n);
         let reason = refusal::send(q, index, messages.len(), wait, caller);
         if reason != 0 {
             return self.refused(reason);
@@ -159,11 +159,8 @@ impl Kernel {
     pub fn queue_receive(self, caller: u32, n: QueueId, wait: u32) -> Answer
         ensures { λ r. ⌜ r ≡ answerOf (queueReceive self caller (n .0) wait) ⌝ }
     {
-        let i = n.0 as usize;
-        if 8 <= i {
-            return self.refused(QUEUE_ERROR);
-        }
-        let q = self.queues[i];
+        let all = self.queues;
+        let q = queue_in(all, n);
         let reason = refusal::receive(q, wait, caller);
         if reason != 0 {
             return self.refused(reason);
@@ -174,11 +171,8 @@ impl Kernel {
     pub fn queue_flush(self, n: QueueId) -> Answer
         ensures { λ r. ⌜ r ≡ answerOf (queueFlush self (n .0)) ⌝ }
     {
-        let i = n.0 as usize;
-        if 8 <= i {
-            return self.refused(QUEUE_ERROR);
-        }
-        let q = self.queues[i];
+        let all = self.queues;
+        let q = queue_in(all, n);
         let reason = refusal::queue(q);
         if reason != 0 {
             return self.refused(reason);
@@ -193,11 +187,8 @@ impl Kernel {
     pub fn queue_prioritize(self, n: QueueId) -> Answer
         ensures { λ r. ⌜ r ≡ answerOf (queuePrioritize self (n .0)) ⌝ }
     {
-        let i = n.0 as usize;
-        if 8 <= i {
-            return self.refused(QUEUE_ERROR);
-        }
-        let reason = refusal::queue(self.queues[i]);
+        let all = self.queues;
+        let reason = refusal::queue(queue_in(all, n));
         if reason != 0 {
             return self.refused(reason);
         }

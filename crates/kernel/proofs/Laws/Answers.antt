@@ -3,21 +3,17 @@ use mathlib.Core.Path.{_≡_, refl, sym, ap, _∙_}
 use mathlib.Core.Bool.{Bool, true, false}
 use Prim.Native.Nat.{ℕ, _≤_, _<_}
 use native.Mathlib.Omega.{arith}
-use lib.ListN.{length, getD, List·getD-eq-default}
+use lib.ListN.{length}
 use lib.Seq.{set-out}
 use lib.Dec.{eqb}
 use borrow.Author.Tests.{eq-eqb, eqb-true, ne-eqb}
 use Rattle.lines.specs.Logic.{if_then_else_}
 use Rattle.lines.proofs.Laws.Logic.{by-test}
-use Rattle.lines.proofs.Laws.Lists.{getD-any}
 use Rattle.objects.specs.declared.queue.Queue.{Queue}
-use Rattle.objects.specs.declared.pool.Pool.{Pool}
-use Rattle.objects.specs.Queues.{noQueue}
-use Rattle.objects.specs.Pools.{noPool}
 use Rattle.calls.specs.declared.held.Held.{Held}
 use Rattle.calls.specs.Refusals.{unless, firstOf}
 use Rattle.kernel.specs.declared.Kernel.{Kernel}
-use Rattle.kernel.specs.Tables.{queueAt, poolAt, withHeld, withQueue, withPool}
+use Rattle.kernel.specs.Tables.{withHeld, withQueue}
 use Rattle.kernel.specs.Answers.{Outcome, refused, guarded}
 
 -- ---- refused or carried out
@@ -54,36 +50,11 @@ pub held-out : (k : Kernel) (t : ℕ) (h : Held) → length (k .held) ≡ 32 →
 unfolding withHeld
 held-out k t h e o = rw (set-out (k .held) t h (omega (arith, e, o)))
 
+-- a queue past the table
+pub queue-out : (k : Kernel) (n : ℕ) (q : Queue) → length (k .queues) ≡ 8 → 8 ≤ n → withQueue k n q ≡ k
+unfolding withQueue
+queue-out k n q e o = rw (set-out (k .queues) n q (omega (arith, e, o)))
+
 -- ---- refused for a known reason
 pub refused-for : (k : Kernel) (reason status : ℕ) (o : Outcome) → reason ≡ status → (status ≡ 0 → ⊥) → refused k status ≡ guarded k reason o
 refused-for k reason status o e n = ap (refused k) (sym e) ∙ sym (is-refused k reason o (λ z. n (sym e ∙ z)))
-
--- ---- a queue past the table
-module _ (k : Kernel) (n : ℕ) (sized : length (k .queues) ≡ 8) (past : 8 ≤ n) where
-  pub queue-none : queueAt k n ≡ noQueue
-  unfolding queueAt
-  queue-none = List·getD-eq-default (k .queues) noQueue (omega (arith, sized, past))
-
-  pub queue-out : (q : Queue) → withQueue k n q ≡ k
-  unfolding withQueue
-  queue-out q = rw (set-out (k .queues) n q (omega (arith, sized, past)))
-
--- one in the table, whatever a read past it would give
-pub queue-in : (k : Kernel) (n : ℕ) (d : Queue) → length (k .queues) ≡ 8 → n < 8 → getD (k .queues) n d ≡ queueAt k n
-unfolding queueAt
-queue-in k n d sized small = getD-any (k .queues) n d noQueue (omega (arith, sized, small))
-
--- ---- a pool past the table
-module _ (k : Kernel) (n : ℕ) (sized : length (k .pools) ≡ 4) (past : 4 ≤ n) where
-  pub pool-none : poolAt k n ≡ noPool
-  unfolding poolAt
-  pool-none = List·getD-eq-default (k .pools) noPool (omega (arith, sized, past))
-
-  pub pool-out : (p : Pool) → withPool k n p ≡ k
-  unfolding withPool
-  pool-out p = rw (set-out (k .pools) n p (omega (arith, sized, past)))
-
--- one in the table, whatever a read past it would give
-pub pool-in : (k : Kernel) (n : ℕ) (d : Pool) → length (k .pools) ≡ 4 → n < 4 → getD (k .pools) n d ≡ poolAt k n
-unfolding poolAt
-pool-in k n d sized small = getD-any (k .pools) n d noPool (omega (arith, sized, small))

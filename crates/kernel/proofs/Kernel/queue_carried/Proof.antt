@@ -30,7 +30,7 @@ unfolding withQueue
 returns c =
     let a = c .before .before .before .args in
     let l : length (a .t1 .queues) ≡ 8 = length-mapped _ (a .t1 .queues) 8 (c .before .before .before .good .0 .1 .1 .1 .1 .1 .0 .1 .0 .1) in
-    let m : c .before .if1 .self ≡ withQueue (a .t1) (a .n .0) (a .q) = ⊎-elim (λ w. w .1) (λ w. w .1 ∙ sym (queue-out (a .t1) (a .n .0) l (w .0 .left) (a .q))) (c .before .if1 .came) in
+    let m : c .before .if1 .self ≡ withQueue (a .t1) (a .n .0) (a .q) = ⊎-elim (λ w. w .1) (λ w. w .1 ∙ sym (queue-out (a .t1) (a .n .0) (a .q) l (w .0 .left))) (c .before .if1 .came) in
     c .carried .ensures ∙ ap (λ (k : Kernel). answered k (a .s) 0 (a .words) (a .ended)) m
 
 pub queue-carried-spec : {M : Type 1} → statement M
