@@ -12,4 +12,3 @@ pub mod KeepsGroups
 pub mod KeepsPools
 pub mod Claims
 pub mod Runs
-pub mod Cases

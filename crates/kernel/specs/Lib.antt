@@ -11,4 +11,3 @@ pub mod Sound
 pub mod General
 pub mod Claims
 pub mod Runs
-pub mod Cases

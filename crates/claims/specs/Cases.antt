@@ -1,27 +1,31 @@
--- Bench cases of document 01 on full-size tables, from nothing created, as equations that the definitions compute.
--- Proved as `cases` of proofs/Laws/Cases.antt.
+-- The bench cases of document 01, P1 to P10 as one list, each made of general calls from nothing created, as equations that the definitions
+-- compute. Proved as `cases` of proofs/Laws/Cases.antt.
 use mathlib.Core.Path.{_≡_}
 use mathlib.Core.List.{List, [], _∷_}
 use Prim.Native.Nat.{ℕ}
 use Rattle.scheduler.specs.Orders.{lineAt}
 use Rattle.calls.specs.Calls.{startup, interrupt, thread}
 use Rattle.objects.specs.Queues.{capacityOf}
+use Rattle.objects.specs.Pools.{blocksOf}
 use Rattle.calls.specs.Held.{oneWord}
 use Rattle.calls.specs.Statuses as Statuses
-use Rattle.kernel.specs.declared.Kernel.{Kernel}
-use Rattle.kernel.specs.Tables.{started, runnerOf, heldAt, semaphoreAt, queueAt, groupAt}
-use Rattle.kernel.specs.Answers.{Outcome}
-use Rattle.kernel.specs.Semaphores.{semaphorePlace}
 use Rattle.waiting.specs.Ticks.{forever}
-use Rattle.kernel.specs.General.{step}
+use Rattle.kernel.specs.declared.Kernel.{Kernel}
+use Rattle.kernel.specs.declared.Answer.{Answer}
+use Rattle.kernel.specs.Tables.{started, runnerOf, heldAt, semaphoreAt, queueAt, groupAt, poolAt}
+use Rattle.kernel.specs.Semaphores.{semaphorePlace}
+use Rattle.claims.specs.Lists.{Made, answer}
 
--- the lent area: three messages of one word, A, B and C
-abbrev pub area : List ℕ
-area = 10 ∷ 11 ∷ 12 ∷ []
+-- the lent message area: three messages of one word, A, B and C
+abbrev pub messages : List ℕ
+messages = 10 ∷ 11 ∷ 12 ∷ []
 
--- the tables after a call with up to four arguments
+-- what a call with up to four arguments answers, and the tables after it
+unfoldable pub said : Kernel → ℕ → ℕ → ℕ → ℕ → ℕ → ℕ → Answer
+said k number caller a b c d = answer k (record { number = number; caller = caller; a = a; b = b; c = c; d = d; messages = messages })
+
 unfoldable pub after : Kernel → ℕ → ℕ → ℕ → ℕ → ℕ → ℕ → Kernel
-after k number caller a b c d = step k number caller a b c d area .kernel
+after k number caller a b c d = said k number caller a b c d .kernel
 
 -- one thread of priority 10 runs, and semaphore 0 has a count
 unfoldable pub withCount : ℕ → Kernel
@@ -60,8 +64,14 @@ p7 =
     25 thread 0 forever 2 0
 
 -- what a receive without waiting gives, and the tables that it leaves
-unfoldable pub receive : Kernel → Outcome
-receive k = step k 26 startup 0 0 0 0 area
+unfoldable pub receive : Kernel → Answer
+receive k = said k 26 startup 0 0 0 0
+
+-- P8: a pool of 100 bytes with blocks of 16, and a thread that has got blocks 0, 1 and 2
+unfoldable pub p8 : Kernel
+p8 =
+    after (after (after (after (after started 33 startup 0 16 100 0) 1 startup 0 10 10 1) 35 thread 0 0 0 0) 35 thread 0 0 0 0)
+    35 thread 0 0 0 0
 
 -- a get with wait 1 at count 0, and one tick
 unfoldable pub timedOutGet : Kernel
@@ -75,20 +85,24 @@ pub record Cases : Type 0 where
   -- P3: 7 changes nothing, 4 runs, it finishes: the runner returns, not 7
   pub p3 : (runnerOf p3a ≡ 0) × (runnerOf p3b ≡ 2) × (runnerOf (after p3b 7 thread 0 0 0 0) ≡ 0)
   -- P4: set OR 1: the first two wake holding 1, flags 0, two ended
-  pub p4woken : step p4 31 interrupt 0 1 0 0 area .ended ≡ 0 ∷ 1 ∷ []
+  pub p4ended : said p4 31 interrupt 0 1 0 0 .ended ≡ 2
   pub p4held : (heldAt (after p4 31 interrupt 0 1 0 0) 0 .words ≡ oneWord 1) × (heldAt (after p4 31 interrupt 0 1 0 0) 1 .words ≡ oneWord 1)
   pub p4flags : groupAt (after p4 31 interrupt 0 1 0 0) 0 .flags ≡ 0
   -- P5: flags all ones, request 0, wait 0: 0x07
-  pub p5 : step p5 32 startup 0 0 0 0 area .status ≡ Statuses.noEvents
+  pub p5 : said p5 32 startup 0 0 0 0 .status ≡ Statuses.noEvents
   -- P6: storage 10 of 4-word messages: capacity 2; storage 3: 0x05
-  pub p6 : (capacityOf (queueAt (after started 22 startup 0 4 10 0) 0) ≡ 2) × (step started 22 startup 0 4 3 0 area .status ≡ Statuses.sizeError)
+  pub p6 : (capacityOf (queueAt (after started 22 startup 0 4 10 0) 0) ≡ 2) × (said started 22 startup 0 4 3 0 .status ≡ Statuses.sizeError)
   -- P7: receives give C, A, B
   pub p7 : (receive p7 .words ≡ oneWord 12) × (receive (receive p7 .kernel) .words ≡ oneWord 10) × (receive (receive (receive p7 .kernel) .kernel) .words ≡ oneWord 11)
+  -- P8: 100 bytes, blocks of 16: 5 blocks; releasing block 2 twice: the second 0x03
+  pub p8blocks : blocksOf (poolAt p8 0) ≡ 5
+  pub p8given : said p8 35 thread 0 0 0 0 .words ≡ oneWord 3
+  pub p8released : (said p8 36 thread 0 2 0 0 .status ≡ Statuses.success) × (said (after p8 36 thread 0 2 0 0) 36 thread 0 2 0 0 .status ≡ Statuses.ptrError)
   -- P9: waiters of priority 20, 5, 5: prioritise moves the middle one first
   pub p9line : lineAt (after p9 21 startup 0 0 0 0 .scheduler) (semaphorePlace 0) ≡ 1 ∷ 0 ∷ 2 ∷ []
   -- P10: count 3: ceiling 3 is 0x21, ceiling 4 done
-  pub p10 : (step (withCount 3) 20 interrupt 0 3 0 0 area .status ≡ Statuses.ceilingExceeded) × (step (withCount 3) 20 interrupt 0 4 0 0 area .status ≡ Statuses.success)
+  pub p10 : (said (withCount 3) 20 interrupt 0 3 0 0 .status ≡ Statuses.ceilingExceeded) × (said (withCount 3) 20 interrupt 0 4 0 0 .status ≡ Statuses.success)
   -- get, wait 1, count 0, one tick: held 0x0D
   pub timeout : heldAt timedOutGet 0 .status ≡ Statuses.noInstance
   -- interrupt with wait 1: 0x04 even at count 5
-  pub interruptWait : step (withCount 5) 18 interrupt 0 1 0 0 area .status ≡ Statuses.waitError
+  pub interruptWait : said (withCount 5) 18 interrupt 0 1 0 0 .status ≡ Statuses.waitError
