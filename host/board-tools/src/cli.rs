@@ -1,7 +1,7 @@
 //! The command line.
 
 use crate::check::Tally;
-use crate::compare::{compare_bytes, leave_out, Inspect};
+use crate::compare::{compare_bytes, Inspect};
 use crate::exercises::{find, symptom, STUDENT_ERRORS};
 use crate::fuzz::{fuzz, Found, Options as FuzzOptions};
 use crate::lanes;
@@ -308,14 +308,11 @@ fn compare_input(inspect: &Inspect, name: &str) -> Done {
             }
         };
     }
-    let (whole, _) = to_tape(name, &bytes)?;
-    let (tape, left_out) = leave_out(&whole);
+    let (tape, _) = to_tape(name, &bytes)?;
     match compare_bytes(inspect, &tape.encode()).map_err(Stop::Bad)? {
         None => {
             let records = tape.records.len();
-            let report =
-                format!("{name}: no difference in {records} records, {left_out} left out\n");
-            write_out(report.as_bytes())
+            write_out(format!("{name}: no difference in {records} records\n").as_bytes())
         }
         Some(difference) => {
             let described = difference.describe(&tape);

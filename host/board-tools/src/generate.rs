@@ -20,16 +20,6 @@ enum Kind {
 impl Kind {
     const ALL: [Kind; 4] = [Kind::Semaphore, Kind::Queue, Kind::Group, Kind::Pool];
 
-    /// Every call of this kind.
-    fn calls(self) -> std::ops::RangeInclusive<u32> {
-        match self {
-            Kind::Semaphore => 16..=21,
-            Kind::Queue => 22..=28,
-            Kind::Group => 29..=32,
-            Kind::Pool => 33..=37,
-        }
-    }
-
     fn limit(self) -> u32 {
         match self {
             Kind::Semaphore => 16,
@@ -54,11 +44,11 @@ struct Plan {
 }
 
 impl Plan {
-    fn new(rng: &mut Rng, kinds: &[Kind]) -> Plan {
+    fn new(rng: &mut Rng) -> Plan {
         let threads = if rng.percent(25) { 32 } else { rng.between(2, 24) };
         let count = rng.between(1, 6);
         let priorities = (0..count).map(|_| rng.below(32)).collect();
-        let objects = kinds.iter().map(|&kind| (kind, numbers(rng, kind.limit()))).collect();
+        let objects = Kind::ALL.iter().map(|&kind| (kind, numbers(rng, kind.limit()))).collect();
         Plan {
             threads,
             priorities,
@@ -83,10 +73,9 @@ enum Phase {
     Draining,
 }
 
-struct Generator<'a> {
+struct Generator {
     rng: Rng,
     plan: Plan,
-    leave_out: &'a [u32],
     tables: Tables,
     tape: Tape,
     phase: Phase,
@@ -94,20 +83,14 @@ struct Generator<'a> {
     focus: Option<(Kind, u32)>,
 }
 
-/// A tape of `records` records without the calls in `leave_out`. The same
-/// arguments give the same tape.
-pub fn generate(seed: u64, records: usize, leave_out: &[u32]) -> Tape {
+/// A tape of `records` records. The same arguments give the same tape.
+pub fn generate(seed: u64, records: usize) -> Tape {
     let mut rng = Rng::new(seed);
-    let kinds: Vec<Kind> = Kind::ALL
-        .into_iter()
-        .filter(|kind| !kind.calls().any(|call| leave_out.contains(&call)))
-        .collect();
-    let plan = Plan::new(&mut rng, &kinds);
+    let plan = Plan::new(&mut rng);
     let words = message_words(&mut rng);
     let mut generator = Generator {
         rng,
         plan,
-        leave_out,
         tables: Tables::new(),
         tape: Tape { records: Vec::with_capacity(records), words },
         phase: Phase::Filling,
@@ -152,18 +135,13 @@ fn wild_value(rng: &mut Rng) -> u32 {
     }
 }
 
-impl Generator<'_> {
+impl Generator {
     fn add_record(&mut self) {
         if self.phase_left == 0 {
             self.change_phase();
         }
         self.phase_left -= 1;
-        let record = loop {
-            let record = self.draw();
-            if !self.leave_out.contains(&record.call) {
-                break record;
-            }
-        };
+        let record = self.draw();
         self.tables.step_numbered::<{ fault::NONE }>(
             record.call,
             record.caller,

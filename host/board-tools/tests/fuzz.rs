@@ -37,6 +37,6 @@ fn every_call_is_carried_out_and_refused() {
 #[test]
 fn the_same_seed_gives_the_same_tape() {
     let seed = tape_seed(7, 3);
-    assert_eq!(generate(seed, 300, &[]), generate(seed, 300, &[]));
-    assert_ne!(generate(seed, 300, &[]), generate(tape_seed(7, 4), 300, &[]));
+    assert_eq!(generate(seed, 300), generate(seed, 300));
+    assert_ne!(generate(seed, 300), generate(tape_seed(7, 4), 300));
 }
