@@ -2,6 +2,7 @@
 
 use crate::check::Tally;
 use crate::compare::{compare_bytes, Inspect};
+use crate::ended::Reason;
 use crate::exercises::{find, symptom, STUDENT_ERRORS};
 use crate::fuzz::{fuzz, Found, Options as FuzzOptions};
 use crate::lanes;
@@ -10,7 +11,7 @@ use crate::show::{run_table, Options as ShowOptions};
 use crate::text::assemble::{assemble, Assembled};
 use crate::text::list::{call_text, list};
 use ordinary::tape::{MAX_RECORDS, MAX_WORDS};
-use ordinary::{print, Tape};
+use ordinary::{print, State, Tape};
 use std::fs;
 use std::io::{self, Read, Write};
 use std::path::{Path, PathBuf};
@@ -397,6 +398,7 @@ fn fuzz_report(options: &FuzzOptions, tally: &Tally) -> String {
             service.number, service.name
         ));
     }
+    out.push_str(&ended_report(tally));
     let compared = match options.inspect {
         Some(_) => "compared with the proved program, no difference",
         None => "not compared with the proved program",
@@ -409,9 +411,31 @@ fn fuzz_report(options: &FuzzOptions, tally: &Tally) -> String {
         options.seed,
         options.from,
         tally.records,
-        tally.ended,
+        tally.ended(),
         tally.longest_line
     ));
+    out
+}
+
+/// How waits ended, one line for each thing that threads wait for.
+fn ended_report(tally: &Tally) -> String {
+    let mut out = "waits ended: served, timed out, aborted, deleted\n".to_string();
+    for (state, name) in [
+        (State::Asleep, "sleep"),
+        (State::Semaphore, "semaphore"),
+        (State::Queue, "queue"),
+        (State::Flags, "event flags"),
+        (State::Block, "block pool"),
+    ] {
+        let ended = |reason| tally.ended_by(state, reason);
+        out.push_str(&format!(
+            "     {name:<18}{:>10}{:>10}{:>10}{:>10}\n",
+            ended(Reason::Served),
+            ended(Reason::TimedOut) + ended(Reason::SleptOut),
+            ended(Reason::Aborted),
+            ended(Reason::Deleted)
+        ));
+    }
     out
 }
 

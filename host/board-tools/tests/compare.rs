@@ -76,8 +76,9 @@ fn a_wrong_status_is_found_and_shrunk() {
 fn a_wrong_table_is_found_and_shrunk() {
     let inspect = stand_in("wrong-table", "sed 's/held=1/held=0/'");
     let found = fuzz(&fuzz_options(inspect), &mut |_, _| {}).unwrap().unwrap_err();
-    // A thread, the object unless it sleeps, the wait, the suspension.
-    assert!([3, 4].contains(&found.tape.records.len()), "{:?}", found.tape);
+    // A thread, the object unless it sleeps, a pool's only block taken, the
+    // wait, the suspension.
+    assert!((3..=5).contains(&found.tape.records.len()), "{:?}", found.tape);
     assert!(found.what.contains("first different word: held=1 / held=0"), "{}", found.what);
 }
 
