@@ -2,6 +2,7 @@
 //! itself.
 #![cfg(unix)]
 
+use board_tools::check::{check_tape, Tally};
 use board_tools::compare::{compare, compare_bytes, first_difference, Inspect};
 use board_tools::fuzz::{fuzz, Options};
 use board_tools::generate::generate;
@@ -172,6 +173,36 @@ fn the_proved_program_agrees_on_generated_tapes() {
     let options = Options { seed: 2, from: 0, count: 25, records: 300, inspect: Some(inspect) };
     if let Err(found) = fuzz(&options, &mut |_, _| {}).unwrap() {
         panic!("{:?}\n{}", found.tape, found.what);
+    }
+}
+
+/// The tapes and texts in a folder of the repository.
+fn stored_tapes(folder: &str) -> Vec<(PathBuf, Tape)> {
+    let folder = Path::new(env!("CARGO_MANIFEST_DIR")).join("../..").join(folder);
+    let paths = fs::read_dir(folder).unwrap().map(|entry| entry.unwrap().path());
+    paths
+        .filter_map(|path| {
+            let bytes = fs::read(&path).ok()?;
+            let tape = match path.extension()?.to_str()? {
+                "tape" => Tape::decode(&bytes).unwrap(),
+                "txt" => assemble(&bytes).unwrap().tape,
+                _ => return None,
+            };
+            Some((path, tape))
+        })
+        .collect()
+}
+
+#[test]
+fn the_proved_program_agrees_on_the_stored_tapes() {
+    let Some(inspect) = proved("comparison on the stored tapes") else { return };
+    for folder in ["tapes", "tapes/exercises"] {
+        let tapes = stored_tapes(folder);
+        assert!(tapes.len() > 5, "{} tapes in {folder}", tapes.len());
+        for (path, tape) in tapes {
+            assert_eq!(compare(&inspect, &tape).unwrap(), None, "{}", path.display());
+            assert_eq!(check_tape(&tape, &mut Tally::default()), Ok(()), "{}", path.display());
+        }
     }
 }
 
