@@ -438,8 +438,8 @@ impl Generator {
         }
     }
 
-    /// A release of a used block, seldom of none; where no block is used, an
-    /// allocate.
+    /// A release of a used block, seldom of a wrong one; where no block is
+    /// used, an allocate.
     fn release(&mut self, number: u32, caller: u32) -> Record {
         let pool = &self.tables.pools[number as usize];
         let used: Vec<u32> =
@@ -598,7 +598,7 @@ fn edge_pool_sizes(rng: &mut Rng) -> (u32, u32) {
     const BYTES: [u32; 10] = [0, 3, 4, 6, 252, 256, 257, 260, u32::MAX - 3, u32::MAX];
     let bytes = *rng.pick(&BYTES).unwrap_or(&0);
     let block = bytes.wrapping_add(4);
-    // None, one, 64, 65 blocks, and 257, which a byte takes for one.
+    // One, 64 and 65 blocks, and 257, which a byte takes for one.
     let near_blocks = [1, 64, 65, 257].map(|blocks: u32| block.wrapping_mul(blocks));
     let total = match rng.below(3) {
         0 => rng.pick(&near_blocks).unwrap_or(&0).wrapping_sub(1),
