@@ -1,7 +1,7 @@
 //! Checks of the ordinary kernel against itself, call by call.
 
-use crate::ended::ended_waits;
-use ordinary::{Accounts, Outcome, Record, Rolls, Status, Tables, Tape};
+use crate::ended::{ended_waits, Ended, Reason};
+use ordinary::{Accounts, Outcome, Record, Rolls, State, Status, Tables, Tape};
 
 /// The first record after which something does not hold.
 #[derive(Clone, PartialEq, Eq, Debug)]
@@ -10,11 +10,12 @@ pub struct Failure {
     pub what: String,
 }
 
-/// How often each call was answered with each status.
+/// How often each call was carried out or refused, and how waits ended.
 #[derive(Clone, Debug)]
 pub struct Tally {
     pub records: u64,
-    pub ended: u64,
+    /// Ended waits, by the state that was left and by `Reason`.
+    ended: [[u64; Reason::ALL.len()]; 9],
     /// By call number: carried out, and refused.
     pub by_call: [(u64, u64); 40],
     /// The most threads that stood in one line.
@@ -23,14 +24,21 @@ pub struct Tally {
 
 impl Default for Tally {
     fn default() -> Tally {
-        Tally { records: 0, ended: 0, by_call: [(0, 0); 40], longest_line: 0 }
+        Tally {
+            records: 0,
+            ended: [[0; Reason::ALL.len()]; 9],
+            by_call: [(0, 0); 40],
+            longest_line: 0,
+        }
     }
 }
 
 impl Tally {
-    fn count(&mut self, record: &Record, outcome: &Outcome, after: &Tables) {
+    fn count(&mut self, record: &Record, outcome: &Outcome, ended: &[Ended], after: &Tables) {
         self.records += 1;
-        self.ended += outcome.ended as u64;
+        for wait in ended {
+            self.ended[wait.from as usize][wait.reason as usize] += 1;
+        }
         if let Some(entry) = self.by_call.get_mut(record.call as usize) {
             if outcome.status.is_carried_out() {
                 entry.0 += 1;
@@ -43,14 +51,14 @@ impl Tally {
         }
     }
 
-    pub fn add(&mut self, other: &Tally) {
-        self.records += other.records;
-        self.ended += other.ended;
-        self.longest_line = self.longest_line.max(other.longest_line);
-        for (entry, other) in self.by_call.iter_mut().zip(&other.by_call) {
-            entry.0 += other.0;
-            entry.1 += other.1;
-        }
+    /// All waits that ended.
+    pub fn ended(&self) -> u64 {
+        self.ended.as_flattened().iter().sum()
+    }
+
+    /// The waits in a state that ended for a reason.
+    pub fn ended_by(&self, state: State, reason: Reason) -> u64 {
+        self.ended[state as usize][reason as usize]
     }
 }
 
@@ -73,7 +81,8 @@ pub fn check_tape(tape: &Tape, tally: &mut Tally) -> Result<(), Failure> {
     for (index, record) in tape.records.iter().enumerate() {
         let before = tables.clone();
         let outcome = tables.call_numbered(record.call, record.caller, record.args, &tape.words);
-        let checked = check_call(&before, record, &outcome, &tables)
+        let ended = ended_waits(&before, record, &tables);
+        let checked = check_call(&before, &outcome, &ended, &tables)
             .and_then(|()| {
                 rolls
                     .follow(record, &tape.words, &outcome, &tables)
@@ -85,15 +94,15 @@ pub fn check_tape(tape: &Tape, tally: &mut Tally) -> Result<(), Failure> {
         if let Err(what) = checked {
             return Err(Failure { record: index, what });
         }
-        tally.count(record, &outcome, &tables);
+        tally.count(record, &outcome, &ended, &tables);
     }
     Ok(())
 }
 
 fn check_call(
     before: &Tables,
-    record: &Record,
     outcome: &Outcome,
+    ended: &[Ended],
     after: &Tables,
 ) -> Result<(), String> {
     after.soundness().map_err(|clause| format!("tables unsound: {clause}"))?;
@@ -111,9 +120,9 @@ fn check_call(
     if outcome.status == Status::WAITING && outcome.words != [0; 16] {
         return Err("a call that now waits answered words".to_string());
     }
-    let ended = ended_waits(before, record, after).len();
-    if outcome.ended as usize != ended {
-        return Err(format!("{} waits counted as ended, but {ended} ended", outcome.ended));
+    if outcome.ended as usize != ended.len() {
+        let (counted, ended) = (outcome.ended, ended.len());
+        return Err(format!("{counted} waits counted as ended, but {ended} ended"));
     }
     Ok(())
 }

@@ -1,7 +1,8 @@
 //! The command line.
 
 use crate::check::Tally;
-use crate::compare::{compare_bytes, leave_out, Inspect};
+use crate::compare::{compare_bytes, Inspect};
+use crate::ended::Reason;
 use crate::exercises::{find, symptom, STUDENT_ERRORS};
 use crate::fuzz::{fuzz, Found, Options as FuzzOptions};
 use crate::lanes;
@@ -10,7 +11,7 @@ use crate::show::{run_table, Options as ShowOptions};
 use crate::text::assemble::{assemble, Assembled};
 use crate::text::list::{call_text, list};
 use ordinary::tape::{MAX_RECORDS, MAX_WORDS};
-use ordinary::{print, Tape};
+use ordinary::{print, State, Tape};
 use std::fs;
 use std::io::{self, Read, Write};
 use std::path::{Path, PathBuf};
@@ -308,14 +309,11 @@ fn compare_input(inspect: &Inspect, name: &str) -> Done {
             }
         };
     }
-    let (whole, _) = to_tape(name, &bytes)?;
-    let (tape, left_out) = leave_out(&whole);
+    let (tape, _) = to_tape(name, &bytes)?;
     match compare_bytes(inspect, &tape.encode()).map_err(Stop::Bad)? {
         None => {
             let records = tape.records.len();
-            let report =
-                format!("{name}: no difference in {records} records, {left_out} left out\n");
-            write_out(report.as_bytes())
+            write_out(format!("{name}: no difference in {records} records\n").as_bytes())
         }
         Some(difference) => {
             let described = difference.describe(&tape);
@@ -400,6 +398,7 @@ fn fuzz_report(options: &FuzzOptions, tally: &Tally) -> String {
             service.number, service.name
         ));
     }
+    out.push_str(&ended_report(tally));
     let compared = match options.inspect {
         Some(_) => "compared with the proved program, no difference",
         None => "not compared with the proved program",
@@ -412,9 +411,31 @@ fn fuzz_report(options: &FuzzOptions, tally: &Tally) -> String {
         options.seed,
         options.from,
         tally.records,
-        tally.ended,
+        tally.ended(),
         tally.longest_line
     ));
+    out
+}
+
+/// How waits ended, one line for each thing that threads wait for.
+fn ended_report(tally: &Tally) -> String {
+    let mut out = "waits ended: served, timed out, aborted, deleted\n".to_string();
+    for (state, name) in [
+        (State::Asleep, "sleep"),
+        (State::Semaphore, "semaphore"),
+        (State::Queue, "queue"),
+        (State::Flags, "event flags"),
+        (State::Block, "block pool"),
+    ] {
+        let ended = |reason| tally.ended_by(state, reason);
+        out.push_str(&format!(
+            "     {name:<18}{:>10}{:>10}{:>10}{:>10}\n",
+            ended(Reason::Served),
+            ended(Reason::TimedOut) + ended(Reason::SleptOut),
+            ended(Reason::Aborted),
+            ended(Reason::Deleted)
+        ));
+    }
     out
 }
 

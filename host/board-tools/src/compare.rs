@@ -7,10 +7,6 @@ use std::io::{self, Write};
 use std::path::{Path, PathBuf};
 use std::process::{Command, Stdio};
 
-/// Calls that the proved library does not know yet: it answers 0x104 to
-/// them. They are left out of comparison; the list shrinks as they land.
-pub const NOT_YET: &[u32] = &[33, 34, 35, 36, 37];
-
 /// Where the proved program stands in the repository.
 const PLACE: &str = "target/bin/inspect";
 
@@ -134,14 +130,6 @@ pub fn first_difference(ordinary: &str, proved: &str) -> Option<Difference> {
 
 fn record_index(line: &str) -> Option<usize> {
     line.strip_prefix("call ")?.split(' ').next()?.parse().ok()
-}
-
-/// The tape without the calls in `NOT_YET`, and how many were left out.
-pub fn leave_out(tape: &Tape) -> (Tape, usize) {
-    let mut kept = tape.clone();
-    kept.records.retain(|record| !NOT_YET.contains(&record.call));
-    let left_out = tape.records.len() - kept.records.len();
-    (kept, left_out)
 }
 
 /// Compares both sides on a tape.

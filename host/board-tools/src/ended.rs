@@ -13,6 +13,12 @@ pub enum Reason {
     Deleted,
 }
 
+impl Reason {
+    /// In the order of their declaration.
+    pub const ALL: [Reason; 5] =
+        [Reason::Served, Reason::TimedOut, Reason::SleptOut, Reason::Aborted, Reason::Deleted];
+}
+
 /// A wait that a call ended.
 #[derive(Clone, Copy, PartialEq, Eq, Debug)]
 pub struct Ended {

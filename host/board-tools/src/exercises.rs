@@ -110,7 +110,7 @@ fn find_difference(
 /// generated tape that it was shrunk from: the shortest over `count` tapes.
 pub fn find(fault: u8, seed: u64, count: u64, records: usize) -> Option<(u64, Tape)> {
     let shrunk = (0..count).filter_map(|number| {
-        let tape = generate(tape_seed(seed, number), records, &[]);
+        let tape = generate(tape_seed(seed, number), records);
         symptom(fault, &tape)?;
         let short = shrink(&tape, &mut |tape| symptom(fault, tape).is_some());
         Some((number, short))

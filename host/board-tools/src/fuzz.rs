@@ -1,7 +1,7 @@
 //! Fuzzing: many generated tapes, checked and compared.
 
 use crate::check::{check_tape, Tally};
-use crate::compare::{compare, Inspect, NOT_YET};
+use crate::compare::{compare, Inspect};
 use crate::generate::generate;
 use crate::rng::Rng;
 use crate::shrink::shrink;
@@ -32,14 +32,6 @@ pub fn tape_seed(seed: u64, number: u64) -> u64 {
     Rng::new(seed ^ number.wrapping_mul(0xD134_2543_DE82_EF95)).draw()
 }
 
-/// The calls that the generator leaves out.
-pub fn left_out(inspect: Option<&Inspect>) -> &'static [u32] {
-    match inspect {
-        Some(_) => NOT_YET,
-        None => &[],
-    }
-}
-
 /// Fuzzes; `progress` is told after each tape how many are done. Gives a
 /// tally of all calls, or the first failure. An error is one of running the
 /// proved program at all.
@@ -50,8 +42,7 @@ pub fn fuzz(
     let inspect = options.inspect.as_ref();
     let mut tally = Tally::default();
     for number in options.from..options.from + options.count {
-        let seed = tape_seed(options.seed, number);
-        let tape = generate(seed, options.records, left_out(inspect));
+        let tape = generate(tape_seed(options.seed, number), options.records);
         if let Some(what) = failure(inspect, &tape, &mut tally)? {
             return Ok(Err(shrink_failure(inspect, number, &tape, what)));
         }

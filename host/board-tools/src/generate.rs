@@ -20,16 +20,6 @@ enum Kind {
 impl Kind {
     const ALL: [Kind; 4] = [Kind::Semaphore, Kind::Queue, Kind::Group, Kind::Pool];
 
-    /// Every call of this kind.
-    fn calls(self) -> std::ops::RangeInclusive<u32> {
-        match self {
-            Kind::Semaphore => 16..=21,
-            Kind::Queue => 22..=28,
-            Kind::Group => 29..=32,
-            Kind::Pool => 33..=37,
-        }
-    }
-
     fn limit(self) -> u32 {
         match self {
             Kind::Semaphore => 16,
@@ -54,11 +44,11 @@ struct Plan {
 }
 
 impl Plan {
-    fn new(rng: &mut Rng, kinds: &[Kind]) -> Plan {
+    fn new(rng: &mut Rng) -> Plan {
         let threads = if rng.percent(25) { 32 } else { rng.between(2, 24) };
         let count = rng.between(1, 6);
         let priorities = (0..count).map(|_| rng.below(32)).collect();
-        let objects = kinds.iter().map(|&kind| (kind, numbers(rng, kind.limit()))).collect();
+        let objects = Kind::ALL.iter().map(|&kind| (kind, numbers(rng, kind.limit()))).collect();
         Plan {
             threads,
             priorities,
@@ -83,10 +73,9 @@ enum Phase {
     Draining,
 }
 
-struct Generator<'a> {
+struct Generator {
     rng: Rng,
     plan: Plan,
-    leave_out: &'a [u32],
     tables: Tables,
     tape: Tape,
     phase: Phase,
@@ -94,20 +83,14 @@ struct Generator<'a> {
     focus: Option<(Kind, u32)>,
 }
 
-/// A tape of `records` records without the calls in `leave_out`. The same
-/// arguments give the same tape.
-pub fn generate(seed: u64, records: usize, leave_out: &[u32]) -> Tape {
+/// A tape of `records` records. The same arguments give the same tape.
+pub fn generate(seed: u64, records: usize) -> Tape {
     let mut rng = Rng::new(seed);
-    let kinds: Vec<Kind> = Kind::ALL
-        .into_iter()
-        .filter(|kind| !kind.calls().any(|call| leave_out.contains(&call)))
-        .collect();
-    let plan = Plan::new(&mut rng, &kinds);
+    let plan = Plan::new(&mut rng);
     let words = message_words(&mut rng);
     let mut generator = Generator {
         rng,
         plan,
-        leave_out,
         tables: Tables::new(),
         tape: Tape { records: Vec::with_capacity(records), words },
         phase: Phase::Filling,
@@ -152,18 +135,13 @@ fn wild_value(rng: &mut Rng) -> u32 {
     }
 }
 
-impl Generator<'_> {
+impl Generator {
     fn add_record(&mut self) {
         if self.phase_left == 0 {
             self.change_phase();
         }
         self.phase_left -= 1;
-        let record = loop {
-            let record = self.draw();
-            if !self.leave_out.contains(&record.call) {
-                break record;
-            }
-        };
+        let record = self.draw();
         self.tables.step_numbered::<{ fault::NONE }>(
             record.call,
             record.caller,
@@ -347,10 +325,9 @@ impl Generator<'_> {
             }
             Kind::Group => (29, 0, 0),
             Kind::Pool => {
-                let bytes =
-                    4 * if rng.percent(80) { rng.between(1, 8) } else { rng.between(1, 64) };
-                let blocks = if rng.percent(85) { rng.between(1, 4) } else { rng.between(1, 64) };
-                (33, bytes, blocks * (bytes + 4) + rng.below(bytes + 4))
+                let (bytes, total) =
+                    if rng.percent(40) { edge_pool_sizes(rng) } else { pool_sizes(rng) };
+                (33, bytes, total)
             }
         };
         Record { call, caller: self.creator(), args: [number, a, b, 0] }
@@ -439,7 +416,6 @@ impl Generator<'_> {
             return self.create_object(kind, number);
         }
         let caller = self.anybody();
-        let at = number as usize;
         match kind {
             Kind::Semaphore => self.put(number, caller),
             Kind::Group => {
@@ -447,14 +423,7 @@ impl Generator<'_> {
                 let flags = if and { self.rng.below(64) } else { self.flags() };
                 Record { call: 31, caller, args: [number, flags, if and { 2 } else { 0 }, 0] }
             }
-            Kind::Pool => {
-                let pool = &self.tables.pools[at];
-                let used: Vec<u32> = (0..pool.blocks as u32)
-                    .filter(|&block| pool.free_set >> block & 1 == 0)
-                    .collect();
-                let block = *self.rng.pick(&used).unwrap_or(&0);
-                Record { call: 36, caller, args: [number, block, 0, 0] }
-            }
+            Kind::Pool => self.release(number, caller),
             Kind::Queue => self.serve_queue(number, caller),
         }
     }
@@ -467,6 +436,33 @@ impl Generator<'_> {
             let ceiling = count.wrapping_add(self.rng.below(3));
             Record { call: 20, caller, args: [number, ceiling, 0, 0] }
         }
+    }
+
+    /// A release of a used block, seldom of a wrong one; where no block is
+    /// used, an allocate.
+    fn release(&mut self, number: u32, caller: u32) -> Record {
+        let pool = &self.tables.pools[number as usize];
+        let used: Vec<u32> =
+            (0..pool.blocks as u32).filter(|&block| pool.free_set >> block & 1 == 0).collect();
+        let block = if self.rng.percent(15) {
+            Some(self.unused_block(number))
+        } else {
+            self.rng.pick(&used).copied()
+        };
+        match block {
+            Some(block) => Record { call: 36, caller, args: [number, block, 0, 0] },
+            None => Record { call: 35, caller, args: [number, 0, 0, 0] },
+        }
+    }
+
+    /// A number that is no used block of a pool: the last released one, or one
+    /// out of range, also where its low byte is a block.
+    fn unused_block(&mut self, number: u32) -> u32 {
+        let pool = &self.tables.pools[number as usize];
+        let blocks = pool.blocks as u32;
+        let released = pool.free_blocks().next().map_or(blocks, u32::from);
+        let low = self.rng.below(blocks);
+        *self.rng.pick(&[released, released, blocks, 64, 256 + low, u32::MAX]).unwrap_or(&blocks)
     }
 
     /// Serves senders by a receive or a flush, receivers by a send.
@@ -588,6 +584,28 @@ impl Generator<'_> {
         let call = if self.rng.percent(50) { 38 } else { 39 };
         Record { call, caller: self.anybody(), args: [self.any_thread(), 0, 0, 0] }
     }
+}
+
+/// Block bytes and total bytes of a pool, mostly one of few blocks.
+fn pool_sizes(rng: &mut Rng) -> (u32, u32) {
+    let bytes = 4 * if rng.percent(80) { rng.between(1, 8) } else { rng.between(1, 64) };
+    let blocks = if rng.percent(85) { rng.between(1, 4) } else { rng.between(1, 64) };
+    (bytes, blocks * (bytes + 4) + rng.below(bytes + 4))
+}
+
+/// Sizes around the bounds of a pool and around 2^32. Most are refused.
+fn edge_pool_sizes(rng: &mut Rng) -> (u32, u32) {
+    const BYTES: [u32; 10] = [0, 3, 4, 6, 252, 256, 257, 260, u32::MAX - 3, u32::MAX];
+    let bytes = *rng.pick(&BYTES).unwrap_or(&0);
+    let block = bytes.wrapping_add(4);
+    // One, 64 and 65 blocks, and 257, which a byte takes for one.
+    let near_blocks = [1, 64, 65, 257].map(|blocks: u32| block.wrapping_mul(blocks));
+    let total = match rng.below(3) {
+        0 => rng.pick(&near_blocks).unwrap_or(&0).wrapping_sub(1),
+        1 => *rng.pick(&near_blocks).unwrap_or(&0),
+        _ => u32::MAX - rng.below(8),
+    };
+    (bytes, total)
 }
 
 fn start_count(rng: &mut Rng) -> u32 {

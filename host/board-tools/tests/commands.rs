@@ -50,7 +50,7 @@ fn assemble_and_list_are_inverse() {
     let folder = folder("inverse");
     let (tape, text) = (folder.join("a.tape"), folder.join("a.txt"));
     let again = folder.join("b.tape");
-    let bytes = generate(5, 200, &[]).encode();
+    let bytes = generate(5, 200).encode();
     fs::write(&tape, &bytes).unwrap();
     let path = |path: &PathBuf| path.to_str().unwrap().to_string();
     assert!(run(&["list", &path(&tape), "-o", &path(&text)], b"").status.success());
@@ -97,7 +97,7 @@ fn an_old_tape_survives_a_bad_text() {
 fn bytes_that_are_no_tape_are_not_listed() {
     let folder = folder("no-tape");
     let out = folder.join("out.txt");
-    let good = generate(9, 20, &[]).encode();
+    let good = generate(9, 20).encode();
     let mut rng = Rng::new(11);
     let mut cases: Vec<Vec<u8>> = vec![
         Vec::new(),
@@ -137,7 +137,7 @@ fn refusals_are_explained() {
 
 #[test]
 fn replay_and_inspect_print_as_the_proved_programs_do() {
-    let bytes = generate(21, 100, &[]).encode();
+    let bytes = generate(21, 100).encode();
     assert_eq!(run(&["replay", "-"], &bytes).stdout, print::replay(&bytes).as_bytes());
     assert_eq!(run(&["inspect", "-"], &bytes).stdout, print::inspect(&bytes).as_bytes());
     let refused = run(&["replay", "-"], &[0; 15]);
@@ -172,7 +172,7 @@ fn lanes_are_a_whole_picture() {
     let folder = folder("lanes");
     let svg = folder.join("run.svg");
     for (seed, records) in [(1, 0), (2, 30), (3, 100), (4, 300), (5, 2048)] {
-        let bytes = generate(seed, records, &[]).encode();
+        let bytes = generate(seed, records).encode();
         let output = run(&["run", "-", "--lanes", svg.to_str().unwrap()], &bytes);
         assert!(output.status.success());
         let picture = fs::read_to_string(&svg).unwrap();

@@ -2,7 +2,8 @@
 //! itself.
 #![cfg(unix)]
 
-use board_tools::compare::{compare, compare_bytes, first_difference, leave_out, Inspect, NOT_YET};
+use board_tools::check::{check_tape, Tally};
+use board_tools::compare::{compare, compare_bytes, first_difference, Inspect};
 use board_tools::fuzz::{fuzz, Options};
 use board_tools::generate::generate;
 use board_tools::rng::Rng;
@@ -37,7 +38,7 @@ fn fuzz_options(inspect: Inspect) -> Options {
 
 #[test]
 fn equal_outputs_have_no_difference() {
-    let tape = generate(3, 50, &[]);
+    let tape = generate(3, 50);
     let text = print::inspect_tape(&tape);
     assert_eq!(first_difference(&text, &text), None);
 }
@@ -54,16 +55,6 @@ fn the_first_difference_names_its_record() {
     let difference = first_difference(ordinary, short).unwrap();
     assert_eq!(difference.record, None);
     assert_eq!(difference.ordinary, "call 0 13 0 0 0 0 0");
-}
-
-#[test]
-fn calls_not_known_yet_are_left_out() {
-    let tape = generate(8, 300, &[]);
-    let (kept, left_out) = leave_out(&tape);
-    assert_eq!(kept.records.len() + left_out, 300);
-    assert!(kept.records.iter().all(|record| !NOT_YET.contains(&record.call)));
-    let generated = generate(8, 300, NOT_YET);
-    assert_eq!(leave_out(&generated).1, 0);
 }
 
 #[test]
@@ -86,9 +77,20 @@ fn a_wrong_status_is_found_and_shrunk() {
 fn a_wrong_table_is_found_and_shrunk() {
     let inspect = stand_in("wrong-table", "sed 's/held=1/held=0/'");
     let found = fuzz(&fuzz_options(inspect), &mut |_, _| {}).unwrap().unwrap_err();
-    // A thread, the object unless it sleeps, the wait, the suspension.
-    assert!([3, 4].contains(&found.tape.records.len()), "{:?}", found.tape);
+    // A thread, the object unless it sleeps, a pool's only block taken, the
+    // wait, the suspension.
+    assert!((3..=5).contains(&found.tape.records.len()), "{:?}", found.tape);
     assert!(found.what.contains("first different word: held=1 / held=0"), "{}", found.what);
+}
+
+#[test]
+fn a_wrong_free_block_is_found_and_shrunk() {
+    let inspect = stand_in("wrong-block", "sed 's/free=\\[1,/free=[2,/'");
+    let found = fuzz(&fuzz_options(inspect), &mut |_, _| {}).unwrap().unwrap_err();
+    // A pool, and the allocate of block 0.
+    let calls: Vec<u32> = found.tape.records.iter().map(|record| record.call).collect();
+    assert_eq!(calls, [33, 35], "{:?}", found.tape);
+    assert!(found.what.contains("first different word: free=[1,"), "{}", found.what);
 }
 
 #[test]
@@ -174,10 +176,40 @@ fn the_proved_program_agrees_on_generated_tapes() {
     }
 }
 
+/// The tapes and texts in a folder of the repository.
+fn stored_tapes(folder: &str) -> Vec<(PathBuf, Tape)> {
+    let folder = Path::new(env!("CARGO_MANIFEST_DIR")).join("../..").join(folder);
+    let paths = fs::read_dir(folder).unwrap().map(|entry| entry.unwrap().path());
+    paths
+        .filter_map(|path| {
+            let bytes = fs::read(&path).ok()?;
+            let tape = match path.extension()?.to_str()? {
+                "tape" => Tape::decode(&bytes).unwrap(),
+                "txt" => assemble(&bytes).unwrap().tape,
+                _ => return None,
+            };
+            Some((path, tape))
+        })
+        .collect()
+}
+
+#[test]
+fn the_proved_program_agrees_on_the_stored_tapes() {
+    let Some(inspect) = proved("comparison on the stored tapes") else { return };
+    for folder in ["tapes", "tapes/exercises"] {
+        let tapes = stored_tapes(folder);
+        assert!(tapes.len() > 5, "{} tapes in {folder}", tapes.len());
+        for (path, tape) in tapes {
+            assert_eq!(compare(&inspect, &tape).unwrap(), None, "{}", path.display());
+            assert_eq!(check_tape(&tape, &mut Tally::default()), Ok(()), "{}", path.display());
+        }
+    }
+}
+
 #[test]
 fn the_proved_program_agrees_on_hostile_bytes() {
     let Some(inspect) = proved("comparison on hostile bytes") else { return };
-    let good = generate(6, 10, NOT_YET).encode();
+    let good = generate(6, 10).encode();
     let mut rng = Rng::new(5);
     let mut cases: Vec<Vec<u8>> = vec![Vec::new(), good[..15].to_vec(), good[..40].to_vec()];
     cases.push([&good[..], &[0]].concat());

@@ -350,7 +350,7 @@ fn both_readings_agree_on_damaged_tables() {
     let mut rng = Rng::new(17);
     let (mut sound, mut unsound) = (0, 0);
     for seed in 0..150 {
-        let tape = generate(seed, 200, &[]);
+        let tape = generate(seed, 200);
         let mut damaged = Vec::new();
         tape.run(&mut Tables::new(), u32::MAX, |index, _, _, tables| {
             if index % 20 == 0 {

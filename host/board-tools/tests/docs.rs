@@ -1,9 +1,9 @@
 //! The examples in the documentation are what the tools print.
 
-use board_tools::compare::{first_difference, NOT_YET};
+use board_tools::compare::first_difference;
 use board_tools::names::{CALLERS, SERVICES};
 use board_tools::show::{run_table, Options};
-use board_tools::text::assemble::assemble;
+use board_tools::text::assemble::{assemble, Assembled};
 use ordinary::{print, Tables, Tape};
 use std::collections::{BTreeMap, BTreeSet};
 use std::fs;
@@ -14,16 +14,27 @@ fn repository(path: &str) -> String {
     fs::read_to_string(root.join(path)).unwrap()
 }
 
-#[test]
-fn the_worked_example_is_true() {
-    let doc = repository("docs/TAPES.md");
-    let text = repository("tapes/exercises/worked-example.txt");
+/// A worked example's text, assembled.
+fn example(name: &str) -> (String, Assembled) {
+    let text = repository(&format!("tapes/exercises/{name}.txt"));
     let assembled = assemble(text.as_bytes()).unwrap();
-    let table = run_table(&assembled.tape, Some(&assembled.lines), Options::default());
-    let replay = print::replay(&assembled.tape.encode());
-    for part in [text, table, replay] {
-        assert!(doc.contains(&format!("```\n{part}```\n")), "not in docs/TAPES.md:\n{part}");
+    (text, assembled)
+}
+
+fn assert_shown(doc: &str, part: &str) {
+    assert!(doc.contains(&format!("```\n{part}```\n")), "not in docs/TAPES.md:\n{part}");
+}
+
+#[test]
+fn the_worked_examples_are_true() {
+    let doc = repository("docs/TAPES.md");
+    for name in ["worked-example", "two-blocks"] {
+        let (text, Assembled { tape, lines }) = example(name);
+        assert_shown(&doc, &text);
+        assert_shown(&doc, &run_table(&tape, Some(&lines), Options::default()));
     }
+    let (_, Assembled { tape, .. }) = example("worked-example");
+    assert_shown(&doc, &print::replay(&tape.encode()));
 }
 
 #[test]
@@ -95,9 +106,8 @@ fn services_rows() -> BTreeMap<u32, BTreeSet<u32>> {
 }
 
 #[test]
-fn the_calls_that_are_known_have_a_row() {
-    let known = (1..40).filter(|number| !NOT_YET.contains(number));
-    assert!(services_rows().into_keys().eq(known));
+fn every_call_has_a_row() {
+    assert!(services_rows().into_keys().eq(1..40));
 }
 
 #[test]

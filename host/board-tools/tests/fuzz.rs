@@ -1,8 +1,11 @@
 //! A short fixed fuzz of the ordinary kernel against its own checks.
 
 use board_tools::check::Tally;
+use board_tools::ended::Reason;
 use board_tools::fuzz::{fuzz, tape_seed, Options};
 use board_tools::generate::generate;
+use ordinary::{Record, State, Status, Tables};
+use std::collections::BTreeMap;
 
 fn short_fuzz(seed: u64, count: u64, records: usize) -> Tally {
     let options = Options { seed, from: 0, count, records, inspect: None };
@@ -31,12 +34,95 @@ fn every_call_is_carried_out_and_refused() {
         assert!(refused > 0, "call {call} refused {refused} times");
     }
     assert!(tally.longest_line >= 15, "longest line {}", tally.longest_line);
-    assert!(tally.ended >= 5_000, "{} waits ended", tally.ended);
+    assert!(tally.ended() >= 5_000, "{} waits ended", tally.ended());
+    for state in [State::Semaphore, State::Queue, State::Flags, State::Block] {
+        for reason in [Reason::Served, Reason::TimedOut, Reason::Aborted, Reason::Deleted] {
+            let ended = tally.ended_by(state, reason);
+            assert!(ended >= 30, "{ended} waits in {state:?} ended by {reason:?}");
+        }
+    }
+}
+
+/// What a call of a pool, or a call about one of its waiters, may meet: a
+/// name, and whether it is met.
+fn pool_cases(
+    before: &Tables,
+    record: &Record,
+    status: Status,
+    after: &Tables,
+) -> Vec<(&'static str, bool)> {
+    let [number, first, second, _] = record.args;
+    let done = |call| record.call == call && status == Status::SUCCESS;
+    if [4, 5, 10].contains(&record.call) {
+        let waits = before.threads.get(number as usize).map(|thread| thread.state);
+        let met = |call| done(call) && waits == Some(State::Block);
+        return vec![
+            ("suspend of a waiter", met(4)),
+            ("terminate of a waiter", met(5)),
+            ("abort of a waiter", met(10)),
+        ];
+    }
+    let (Some(pool), Some(pool_after)) =
+        (before.pools.get(number as usize), after.pools.get(number as usize))
+    else {
+        return Vec::new();
+    };
+    let blocks = pool.blocks as u32;
+    let waiters = pool.line.iter(&before.threads).count();
+    let refused = |call, with| record.call == call && status == Status(with);
+    let fitting = (4..=256).contains(&first) && first % 4 == 0;
+    vec![
+        ("create, 1 block", done(33) && pool_after.blocks == 1),
+        ("create, 64 blocks", done(33) && pool_after.blocks == 64),
+        ("create, 65 blocks", refused(33, 5) && fitting && second / (first + 4) == 65),
+        ("create, 257 blocks", refused(33, 5) && fitting && second / (first + 4) == 257),
+        ("create, no block", refused(33, 5) && fitting && second < first + 4),
+        ("create, total near 2^32", refused(33, 5) && fitting && second >= u32::MAX - 7),
+        ("create, block near 2^32", refused(33, 5) && first >= u32::MAX - 3),
+        ("create, both near 2^32", refused(33, 5) && first.min(second) >= u32::MAX - 7),
+        ("delete with waiters", done(34) && waiters > 1),
+        ("allocate served at once", done(35)),
+        ("allocate that waits", record.call == 35 && status == Status::WAITING),
+        ("allocate behind a waiter", waiters > 0 && record.call == 35 && status == Status::WAITING),
+        ("allocate refused", refused(35, 0x10)),
+        ("allocate refused, others wait", refused(35, 0x10) && waiters > 0),
+        ("release that serves", done(36) && waiters > 0),
+        ("release that frees", done(36) && waiters == 0),
+        ("release of a free block", refused(36, 3) && first < blocks),
+        ("release one past the last", refused(36, 3) && first == blocks),
+        ("release of block 64", refused(36, 3) && first == 64),
+        ("release past a byte", refused(36, 3) && first >= 256 && first % 256 < blocks),
+        ("release of block 2^32 - 1", refused(36, 3) && first == u32::MAX),
+        ("release refused, others wait", refused(36, 3) && waiters > 0),
+        ("prioritise that moves", done(37) && pool.line.first != pool_after.line.first),
+        ("prioritise that moves nobody", done(37) && waiters > 1 && pool.line == pool_after.line),
+    ]
+}
+
+#[test]
+fn calls_of_pools_meet_every_case() {
+    let mut seen: BTreeMap<&str, u32> = BTreeMap::new();
+    for number in 0..300 {
+        let mut before = Tables::new();
+        generate(tape_seed(6, number), 300).run(
+            &mut Tables::new(),
+            u32::MAX,
+            |_, record, outcome, after| {
+                for (name, met) in pool_cases(&before, record, outcome.status, after) {
+                    *seen.entry(name).or_default() += met as u32;
+                }
+                before = after.clone();
+            },
+        );
+    }
+    for (name, times) in &seen {
+        assert!(*times >= 5, "{name}: met {times} times in {seen:?}");
+    }
 }
 
 #[test]
 fn the_same_seed_gives_the_same_tape() {
     let seed = tape_seed(7, 3);
-    assert_eq!(generate(seed, 300, &[]), generate(seed, 300, &[]));
-    assert_ne!(generate(seed, 300, &[]), generate(tape_seed(7, 4), 300, &[]));
+    assert_eq!(generate(seed, 300), generate(seed, 300));
+    assert_ne!(generate(seed, 300), generate(tape_seed(7, 4), 300));
 }

@@ -92,7 +92,7 @@ fn empty_tapes() {
 #[test]
 fn generated_tapes_round_trip() {
     for seed in 0..150 {
-        assert_round_trip(&generate(seed, 120, &[]));
+        assert_round_trip(&generate(seed, 120));
     }
 }
 

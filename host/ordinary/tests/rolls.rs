@@ -54,6 +54,63 @@ fn a_roll_ends_by_timeout_abort_terminate_or_prioritise() {
     assert!(!feed(&mut board, &mut roll, INTERRUPT, 15, [0; 4]));
 }
 
+/// Threads 0, 1, 2 (timed: 5, forever, 2) wait on pool 0 of one block, which
+/// is in use; 3 runs. Pool 1 has a used block too.
+fn waiting_for_blocks() -> Board {
+    let mut board = Board::new();
+    for pool in 0..2 {
+        board.ok(STARTUP, 33, &[pool, 4, 8]);
+        board.ok(STARTUP, 35, &[pool, 0]);
+    }
+    for (thread, wait) in [5, FOREVER, 2].into_iter().enumerate() {
+        board.thread(thread as u32, 10);
+        board.wait(35, &[0, wait]);
+    }
+    board.thread(3, 10);
+    board
+}
+
+#[test]
+fn the_roll_of_a_pool_counts_its_releases() {
+    let mut board = waiting_for_blocks();
+    let mut roll = Roll::start(&board.tables, ThreadNo(2)).unwrap();
+    assert!(feed(&mut board, &mut roll, INTERRUPT, 36, [0; 4]));
+    assert!(feed(&mut board, &mut roll, INTERRUPT, 36, [1, 0, 0, 0])); // another pool
+    assert!(feed(&mut board, &mut roll, INTERRUPT, 36, [0, 1, 0, 0])); // no such block
+    assert!(feed(&mut board, &mut roll, INTERRUPT, 37, [1, 0, 0, 0]));
+    assert!(feed(&mut board, &mut roll, THREAD, 34, [1, 0, 0, 0]));
+    assert!(feed(&mut board, &mut roll, INTERRUPT, 15, [0; 4]));
+    assert!(feed(&mut board, &mut roll, INTERRUPT, 36, [0; 4]));
+    assert!(!feed(&mut board, &mut roll, INTERRUPT, 36, [0; 4]));
+    for (caller, call) in [(INTERRUPT, 37), (THREAD, 34)] {
+        let mut board = waiting_for_blocks();
+        let mut roll = Roll::start(&board.tables, ThreadNo(2)).unwrap();
+        assert!(!feed(&mut board, &mut roll, caller, call, [0; 4]));
+    }
+}
+
+#[test]
+fn wrong_runs_of_a_pool_are_noticed() {
+    let board = waiting_for_blocks();
+    let follow = |record: Record, status: u32, board: &Board| {
+        let mut roll = Roll::start(&waiting_for_blocks().tables, ThreadNo(0)).unwrap();
+        let (status, next) = (Status(status), board.tables.runner());
+        let outcome = Outcome { status, words: [0; 16], next, ended: 0 };
+        roll.follow(&record, &area(), &outcome, &board.tables).map_err(|error| error.what)
+    };
+    let late = follow(Record { call: 35, caller: INTERRUPT, args: [0; 4] }, 0, &board);
+    assert_eq!(late, Err("a later call was served while the thread waited"));
+    let release = Record { call: 36, caller: INTERRUPT, args: [0; 4] };
+    let unserved = follow(release, 0, &board);
+    assert_eq!(unserved, Err("a thread that was struck out still stands in line"));
+    let mut served = board.clone();
+    served.ok(INTERRUPT, 36, &[0, 0]);
+    assert_eq!(follow(release, 0, &served), Ok(false));
+    served.tables.threads[0].held_words[0] = 1;
+    let wrong_block = follow(release, 0, &served);
+    assert_eq!(wrong_block, Err("the served thread does not hold what the giving call gave"));
+}
+
 #[test]
 fn no_roll_for_senders_flags_waiters_and_others() {
     let mut board = Board::new();
