@@ -5,8 +5,8 @@ ghost use mathlib.Core.Path.{_≡_};
 ghost use mathlib.Core.List.{List, []};
 ghost use lib.ListN.{getD};
 ghost use Rattle.objects.specs.Semaphores.{noSemaphore};
-ghost use Rattle.calls.specs.Held.{noHeld, twoWords};
-ghost use Rattle.kernel.specs.Tables.{started};
+ghost use Rattle.calls.specs.Held.{noHeld, noWords, twoWords};
+ghost use Rattle.kernel.specs.Tables.{started, withHeld};
 ghost use Rattle.kernel.specs.Answers.{answerOf, refused, answered};
 use calls::held::Held;
 use lines::ThreadId;
@@ -92,6 +92,24 @@ impl Kernel {
             ended,
             kernel: self,
         }
+    }
+
+    // The answer of a call that was carried out, after which thread `t` holds `h` and the next thread is chosen on `s`.
+    pub fn held_carried(
+        mut self,
+        t: ThreadId,
+        h: Held,
+        s: Scheduler,
+        status: u32,
+        ended: u32,
+    ) -> Answer
+        ensures { λ r. ⌜ r ≡ answered (withHeld self (t .0) h) s status noWords ended ⌝ }
+    {
+        let i = t.0 as usize;
+        if i < 32 {
+            self.held[i] = h;
+        }
+        self.carried(s, status, [0; 16], ended)
     }
 }
 

@@ -31,7 +31,7 @@ fn start_state(start: u32) -> u8
 
 impl Kernel {
     pub fn thread_create(
-        mut self,
+        self,
         caller: u32,
         t: ThreadId,
         priority: u32,
@@ -45,16 +45,11 @@ impl Kernel {
         if reason != 0 {
             return self.refused(reason);
         }
-        let i = t.0 as usize;
-        if i < 32 {
-            let h = Held::of(0, [0; 16]);
-            self.held[i] = h;
-        }
         let th = Thread::created(start_state(start), priority as u8, threshold as u8);
-        self.carried(s.moved(t, th), SUCCESS, [0; 16], 0)
+        self.held_carried(t, Held::of(0, [0; 16]), s.moved(t, th), SUCCESS, 0)
     }
 
-    pub fn thread_delete(mut self, caller: u32, t: ThreadId) -> Answer
+    pub fn thread_delete(self, caller: u32, t: ThreadId) -> Answer
         ensures { λ r. ⌜ r ≡ answerOf (threadDelete self caller (t .0)) ⌝ }
     {
         let s = self.scheduler;
@@ -62,12 +57,13 @@ impl Kernel {
         if reason != 0 {
             return self.refused(reason);
         }
-        let i = t.0 as usize;
-        if i < 32 {
-            let h = Held::of(0, [0; 16]);
-            self.held[i] = h;
-        }
-        self.carried(s.moved(t, Thread::uncreated()), SUCCESS, [0; 16], 0)
+        self.held_carried(
+            t,
+            Held::of(0, [0; 16]),
+            s.moved(t, Thread::uncreated()),
+            SUCCESS,
+            0,
+        )
     }
 
     pub fn thread_resume(self, t: ThreadId) -> Answer
@@ -118,7 +114,7 @@ impl Kernel {
         self.carried(s, SUCCESS, [0; 16], 0)
     }
 
-    pub fn thread_terminate(mut self, caller: u32, t: ThreadId) -> Answer
+    pub fn thread_terminate(self, caller: u32, t: ThreadId) -> Answer
         ensures { λ r. ⌜ r ≡ answerOf (threadTerminate self caller (t .0)) ⌝ }
     {
         let s = self.scheduler;
@@ -130,20 +126,11 @@ impl Kernel {
         if (th.state == COMPLETED) | (th.state == TERMINATED) {
             return self.carried(s, SUCCESS, [0; 16], 0);
         }
-        let i = t.0 as usize;
-        if i < 32 {
-            let h = Held::of(0, [0; 16]);
-            self.held[i] = h;
-        }
-        self.carried(
-            s.moved(t, th.in_state(TERMINATED, 0, 0)),
-            SUCCESS,
-            [0; 16],
-            0,
-        )
+        let ended = th.in_state(TERMINATED, 0, 0);
+        self.held_carried(t, Held::of(0, [0; 16]), s.moved(t, ended), SUCCESS, 0)
     }
 
-    pub fn thread_reset(mut self, caller: u32, t: ThreadId) -> Answer
+    pub fn thread_reset(self, caller: u32, t: ThreadId) -> Answer
         ensures { λ r. ⌜ r ≡ answerOf (threadReset self caller (t .0)) ⌝ }
     {
         let s = self.scheduler;
@@ -152,20 +139,11 @@ impl Kernel {
         if reason != 0 {
             return self.refused(reason);
         }
-        let i = t.0 as usize;
-        if i < 32 {
-            let h = Held::of(0, [0; 16]);
-            self.held[i] = h;
-        }
-        self.carried(
-            s.moved(t, th.in_state(SUSPENDED, 0, 0)),
-            SUCCESS,
-            [0; 16],
-            0,
-        )
+        let fresh = th.in_state(SUSPENDED, 0, 0);
+        self.held_carried(t, Held::of(0, [0; 16]), s.moved(t, fresh), SUCCESS, 0)
     }
 
-    pub fn thread_finish(mut self, caller: u32) -> Answer
+    pub fn thread_finish(self, caller: u32) -> Answer
         ensures { λ r. ⌜ r ≡ answerOf (threadFinish self caller) ⌝ }
     {
         let reason = refusal::thread_only(caller);
@@ -175,17 +153,8 @@ impl Kernel {
         let s = self.scheduler;
         let t = s.running;
         let th = s.thread_at(t);
-        let i = t.0 as usize;
-        if i < 32 {
-            let h = Held::of(0, [0; 16]);
-            self.held[i] = h;
-        }
-        self.carried(
-            s.moved(t, th.in_state(COMPLETED, 0, 0)),
-            SUCCESS,
-            [0; 16],
-            0,
-        )
+        let ended = th.in_state(COMPLETED, 0, 0);
+        self.held_carried(t, Held::of(0, [0; 16]), s.moved(t, ended), SUCCESS, 0)
     }
 
     pub fn thread_relinquish(mut self, caller: u32) -> Answer
@@ -222,7 +191,7 @@ impl Kernel {
         self.started_wait(false, ASLEEP, 0, ticks, Held::of(WAITING, [0; 16]))
     }
 
-    pub fn thread_wait_abort(mut self, t: ThreadId) -> Answer
+    pub fn thread_wait_abort(self, t: ThreadId) -> Answer
         ensures { λ r. ⌜ r ≡ answerOf (threadWaitAbort self (t .0)) ⌝ }
     {
         let s = self.scheduler;
@@ -230,12 +199,7 @@ impl Kernel {
         if reason != 0 {
             return self.refused(reason);
         }
-        let i = t.0 as usize;
-        if i < 32 {
-            let h = Held::of(WAIT_ABORTED, [0; 16]);
-            self.held[i] = h;
-        }
-        self.carried(s.woken(t), SUCCESS, [0; 16], 1)
+        self.held_carried(t, Held::of(WAIT_ABORTED, [0; 16]), s.woken(t), SUCCESS, 1)
     }
 
     pub fn thread_priority_change(self, caller: u32, t: ThreadId, priority: u32) -> Answer
