@@ -109,7 +109,16 @@ impl Kernel {
         if i < 32 {
             self.held[i] = h;
         }
-        self.carried(s, status, [0; 16], ended)
+        let chosen = s.rescheduled(false);
+        let next = chosen.running;
+        self.scheduler = chosen;
+        Answer {
+            status,
+            words: [0; 16],
+            next,
+            ended,
+            kernel: self,
+        }
     }
 }
 
