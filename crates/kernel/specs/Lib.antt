@@ -8,6 +8,7 @@ pub mod Queues
 pub mod Groups
 pub mod Pools
 pub mod Sound
+pub mod Views
 pub mod General
 pub mod Claims
 pub mod Runs

@@ -26,6 +26,7 @@ pub mod run;
 pub mod semaphores;
 pub mod sound;
 pub mod threads;
+pub mod view;
 pub mod waits;
 
 pub struct Kernel {

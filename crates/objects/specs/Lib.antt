@@ -3,3 +3,4 @@ pub mod Semaphores
 pub mod Queues
 pub mod Groups
 pub mod Pools
+pub mod Views

@@ -3,3 +3,4 @@ pub mod group;
 pub mod pool;
 pub mod queue;
 pub mod semaphore;
+pub mod view;

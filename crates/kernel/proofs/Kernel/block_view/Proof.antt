@@ -1,0 +1,25 @@
+use mathlib.Core.Path.{ap, _∙_}
+use borrow.Author.Needs.{needs}
+use lib.ListN.{length}
+use Rattle.objects.specs.declared.pool.Pool.{Pool}
+use Rattle.objects.specs.Pools.{blockStart}
+use Rattle.objects.specs.Views.{viewedb, viewed, onwards}
+use Rattle.kernel.specs.Views.{blockView}
+use Rattle.kernel.proofs.Kernel.block_view.Statement.{statement}
+use Rattle.kernel.proofs.Kernel.block_view.Tie as tie
+
+viewed-pool-requires : tie.Need-viewed-pool-requires
+viewed-pool-requires c κs = search needs
+
+block-view-requires : tie.Need-block-view-requires
+block-view-requires c κs = search needs
+
+returns : tie.Need-returns
+unfolding blockView
+returns c =
+    let a = c .before .before .before .args in
+    let e = c .before .viewed-pool .ensures in
+    (c .block-view .ensures .0 ∙ ap (λ (p : Pool). viewed p (a .block) (a .area .now)) e, λ v. c .block-view .ensures .1 (ap (λ (p : Pool). viewedb p (a .block) (length (a .area .now))) e ∙ v) ∙ ap (λ (p : Pool). onwards (blockStart p (a .block)) (a .area .ptr)) e)
+
+pub block-view-spec : {M : Type 1} → statement M
+block-view-spec = tie.close (tie.spec viewed-pool-requires block-view-requires returns)

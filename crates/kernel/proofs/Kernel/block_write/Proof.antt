@@ -1,0 +1,26 @@
+use mathlib.Core.Path.{ap, _∙_}
+use borrow.Author.Needs.{needs}
+use Rattle.objects.specs.declared.pool.Pool.{Pool}
+use Rattle.objects.specs.Views.{written}
+use Rattle.kernel.specs.Views.{blockWritten}
+use Rattle.kernel.proofs.Kernel.block_write.Statement.{statement}
+use Rattle.kernel.proofs.Kernel.block_write.Tie as tie
+
+viewed-pool-requires : tie.Need-viewed-pool-requires
+viewed-pool-requires c κs = search needs
+
+block-write-requires : tie.Need-block-write-requires
+block-write-requires c κs = search needs
+
+same-length : tie.Need-same-length
+same-length c = search needs
+
+returns : tie.Need-returns
+unfolding blockWritten
+returns c =
+    let a = c .before .before .before .before .before .before .before .args in
+    c .before .before .block-write .ensures ∙ ap (λ (p : Pool). written p (a .block) (a .bytes .now) (a .area .now)) (c .before .before .before .before .viewed-pool .ensures)
+
+pub block-write-spec : {M : Type 1} → statement M
+block-write-spec =
+    tie.close (tie.spec viewed-pool-requires block-write-requires same-length returns)

@@ -1,0 +1,27 @@
+-- The block view from the tables: which bytes of a lent pool area are a block's, and what the area is after a write into them.
+use mathlib.Core.List.{List}
+use Prim.Native.Nat.{ℕ}
+use Rattle.lines.specs.Logic.{if_then_else_}
+use Rattle.objects.specs.declared.pool.Pool.{Pool}
+use Rattle.objects.specs.declared.view.Extent.{Extent}
+use Rattle.objects.specs.Pools.{noPool}
+use Rattle.objects.specs.Views.{extentOf, viewed, written}
+use Rattle.kernel.specs.declared.Kernel.{Kernel}
+use Rattle.kernel.specs.Tables.{poolAt}
+use Rattle.kernel.specs.Sound.{soundb}
+
+-- pool n of sound tables; "for unsound tables, no such pool", one that is not created, of which no block is shown
+unfoldable pub viewedPool : Kernel → ℕ → Pool
+viewedPool k n = if soundb k then poolAt k n else noPool
+
+-- where a block of pool n lies in an area of len bytes
+unfoldable pub blockExtent : Kernel → ℕ → ℕ → ℕ → Extent
+blockExtent k n block len = extentOf (viewedPool k n) block len
+
+-- "A shower of blocks returns the block as a part of the lent pool area"
+unfoldable pub blockView : Kernel → ℕ → ℕ → List ℕ → List ℕ
+blockView k n block area = viewed (viewedPool k n) block area
+
+-- the area after bytes are written to the front of a block of pool n
+unfoldable pub blockWritten : Kernel → ℕ → ℕ → List ℕ → List ℕ → List ℕ
+blockWritten k n block bytes area = written (viewedPool k n) block bytes area
