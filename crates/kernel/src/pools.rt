@@ -18,7 +18,7 @@ use scheduler::thread::ON_BLOCK;
 use scheduler::thread::Place;
 
 // The record of pool `n`, that of an uncreated one past the table.
-fn pool_in(all: [Pool; 4], n: PoolId) -> Pool
+pub fn pool_in(all: [Pool; 4], n: PoolId) -> Pool
     ensures { λ r. ⌜ r ≡ getD all (n .0) noPool ⌝ }
 {
     let i = n.0 as usize;

@@ -7,6 +7,7 @@ ghost use Rattle.objects.specs.Pools.{blockStart};
 ghost use Rattle.objects.specs.Views.{viewedb, onwards};
 ghost use Rattle.kernel.specs.Views.{viewedPool, blockExtent, blockView, blockWritten};
 use super::Kernel;
+use super::pools::pool_in;
 use objects::pool::Pool;
 use objects::pool::PoolId;
 use objects::view::Extent;
@@ -16,9 +17,9 @@ impl Kernel {
     fn viewed_pool(self, n: PoolId) -> Pool
         ensures { λ r. ⌜ r ≡ viewedPool self (n .0) ⌝ }
     {
-        let i = n.0 as usize;
+        let all = self.pools;
         if self.is_sound() {
-            if i < 4 { self.pools[i] } else { Pool::none() }
+            pool_in(all, n)
         } else {
             Pool::none()
         }
