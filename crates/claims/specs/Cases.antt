@@ -3,6 +3,7 @@
 use mathlib.Core.Path.{_≡_}
 use mathlib.Core.List.{List, [], _∷_}
 use Prim.Native.Nat.{ℕ}
+use Rattle.lines.specs.Lists.{numbersFrom}
 use Rattle.scheduler.specs.Orders.{lineAt}
 use Rattle.calls.specs.Calls.{startup, interrupt, thread}
 use Rattle.objects.specs.Queues.{capacityOf}
@@ -14,6 +15,7 @@ use Rattle.kernel.specs.declared.Kernel.{Kernel}
 use Rattle.kernel.specs.declared.Answer.{Answer}
 use Rattle.kernel.specs.Tables.{started, runnerOf, heldAt, semaphoreAt, queueAt, groupAt, poolAt}
 use Rattle.kernel.specs.Semaphores.{semaphorePlace}
+use Rattle.kernel.specs.Views.{blockView}
 use Rattle.claims.specs.Lists.{Made, answer}
 
 -- the lent message area: three messages of one word, A, B and C
@@ -67,7 +69,7 @@ p7 =
 unfoldable pub receive : Kernel → Answer
 receive k = said k 26 startup 0 0 0 0
 
--- P8: a pool of 100 bytes with blocks of 16, and a thread that has got blocks 0, 1 and 2
+-- P8: a pool of 100 bytes with blocks of 16, and a thread that has got blocks 0, 1 and 2. Each byte of the lent area is its own number.
 unfoldable pub p8 : Kernel
 p8 =
     after (after (after (after (after started 33 startup 0 16 100 0) 1 startup 0 10 10 1) 35 thread 0 0 0 0) 35 thread 0 0 0 0)
@@ -94,9 +96,9 @@ pub record Cases : Type 0 where
   pub p6 : (capacityOf (queueAt (after started 22 startup 0 4 10 0) 0) ≡ 2) × (said started 22 startup 0 4 3 0 .status ≡ Statuses.sizeError)
   -- P7: receives give C, A, B
   pub p7 : (receive p7 .words ≡ oneWord 12) × (receive (receive p7 .kernel) .words ≡ oneWord 10) × (receive (receive (receive p7 .kernel) .kernel) .words ≡ oneWord 11)
-  -- P8: 100 bytes, blocks of 16: 5 blocks; releasing block 2 twice: the second 0x03
+  -- P8: 100 bytes, blocks of 16: 5 blocks; block 2 is bytes 44 to 59; releasing it twice: the second 0x03
   pub p8blocks : blocksOf (poolAt p8 0) ≡ 5
-  pub p8given : said p8 35 thread 0 0 0 0 .words ≡ oneWord 3
+  pub p8view : blockView p8 0 2 (numbersFrom 0 100) ≡ numbersFrom 44 16
   pub p8released : (said p8 36 thread 0 2 0 0 .status ≡ Statuses.success) × (said (after p8 36 thread 0 2 0 0) 36 thread 0 2 0 0 .status ≡ Statuses.ptrError)
   -- P9: waiters of priority 20, 5, 5: prioritise moves the middle one first
   pub p9line : lineAt (after p9 21 startup 0 0 0 0 .scheduler) (semaphorePlace 0) ≡ 1 ∷ 0 ∷ 2 ∷ []

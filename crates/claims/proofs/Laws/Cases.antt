@@ -13,6 +13,7 @@ use Rattle.objects.specs.Pools as ObjectsPools
 use Rattle.objects.specs.Queues as ObjectsQueues
 use Rattle.objects.specs.Semaphores as ObjectsSemaphores
 use Rattle.objects.specs.Slots as ObjectsSlots
+use Rattle.objects.specs.Views as ObjectsViews
 use Rattle.calls.specs.Calls as CallsCalls
 use Rattle.calls.specs.Held as CallsHeld
 use Rattle.calls.specs.Messages as CallsMessages
@@ -29,12 +30,13 @@ use Rattle.kernel.specs.Semaphores as KernelSemaphores
 use Rattle.kernel.specs.Sound as KernelSound
 use Rattle.kernel.specs.Tables as KernelTables
 use Rattle.kernel.specs.Threads as KernelThreads
+use Rattle.kernel.specs.Views as KernelViews
 use Rattle.kernel.specs.Waits as KernelWaits
 use Rattle.claims.specs.Lists.{answer}
 use Rattle.claims.specs.Cases.{said, after, withCount, p3a, p3b, waits, p9, asks, p4, p5, p7, receive, p8, timedOutGet, Cases}
 
 pub cases : Cases
-unfolding said after withCount p3a p3b waits p9 asks p4 p5 p7 receive p8 timedOutGet answer LinesLines.members LinesLines.pad LinesLines.lineOf LinesLines.cleanb LinesLines.slotOf LinesLines.tally LinesLines.betterOf LinesLines.bestWithKey LinesLists.numbersFrom LinesLists.filter LinesLists.without LinesLists.toEnd LinesLists.toFront LinesLists.count LinesLists.below LinesLists.first LinesLists.firstWith LinesLists.leastOf LinesLists.firstOfKey LinesLists.bestOf LinesLists.prioritised LinesLists.unionOf LinesLogic.oneIf LinesLogic.implies LinesLogic.allBelow SchedulerChanges.withLevels SchedulerChanges.priorityChanged SchedulerChanges.preemptionChanged SchedulerChoice.bestAmong SchedulerChoice.bestReady SchedulerChoice.bestMarked SchedulerChoice.staysb SchedulerChoice.overtakesb SchedulerChoice.nextOf SchedulerChoice.withMark SchedulerChoice.replaced SchedulerChoice.ran SchedulerChoice.rescheduled SchedulerChoice.relinquished SchedulerChoice.wantedb SchedulerChoice.consideredOf SchedulerOrders.threadAt SchedulerOrders.lineAt SchedulerOrders.firstAt SchedulerOrders.withThread SchedulerOrders.withOrder SchedulerOrders.withRunner SchedulerOrders.started SchedulerOrders.moved SchedulerOrders.movedFront SchedulerOrders.joined SchedulerOrders.woken SchedulerOrders.keyAt SchedulerOrders.keysAt SchedulerOrders.prioritisedAt SchedulerSound.limitsb SchedulerSound.markFitb SchedulerSound.suspensionFitb SchedulerSound.ticksFitb SchedulerSound.objectFitb SchedulerSound.zerob SchedulerSound.fitb SchedulerSound.countedb SchedulerSound.steadyb SchedulerSound.runsb SchedulerSound.soundb SchedulerThreads.uncreated SchedulerThreads.noThread SchedulerThreads.readyb SchedulerThreads.sleepsb SchedulerThreads.waitsb SchedulerThreads.pausedb SchedulerThreads.markedb SchedulerThreads.standsb SchedulerThreads.numberOf SchedulerThreads.placedb SchedulerThreads.inState SchedulerThreads.awake SchedulerThreads.withSuspension SchedulerThreads.created ObjectsGroups.noGroup ObjectsGroups.groupWith ObjectsGroups.orOptionb ObjectsGroups.someSetb ObjectsGroups.allSetb ObjectsGroups.metb ObjectsGroups.clearsb ObjectsGroups.clearOf ObjectsGroups.lessFlags ObjectsPools.noPool ObjectsPools.blocksOf ObjectsPools.freeBlocks ObjectsPools.blockSizesb ObjectsPools.poolLimitsb ObjectsPools.onceb ObjectsPools.listingb ObjectsPools.listFitb ObjectsPools.poolZerob ObjectsPools.poolFitb ObjectsPools.listing ObjectsPools.freshPool ObjectsPools.usedb ObjectsPools.nextBlock ObjectsPools.withoutNext ObjectsPools.withFree ObjectsPools.blockStart ObjectsQueues.noQueue ObjectsQueues.capacityOf ObjectsQueues.emptyb ObjectsQueues.fullb ObjectsQueues.roomb ObjectsQueues.usedWords ObjectsQueues.sizesFitb ObjectsQueues.queueLimitsb ObjectsQueues.storeFitb ObjectsQueues.queueZerob ObjectsQueues.queueFitb ObjectsQueues.emptyQueue ObjectsQueues.storedWords ObjectsQueues.storing ObjectsQueues.oldest ObjectsQueues.withoutOldest ObjectsQueues.withLast ObjectsQueues.withFirst ObjectsQueues.withSent ObjectsQueues.givenPast ObjectsQueues.leftPast ObjectsQueues.flushed ObjectsSemaphores.noSemaphore ObjectsSlots.zeroFrom CallsCalls.knownCall CallsCalls.decoded CallsHeld.holding CallsHeld.sending CallsHeld.requesting CallsMessages.messageIn CallsRefusals.unless CallsRefusals.firstOf CallsRefusals.createRefusal CallsRefusals.deleteRefusal CallsRefusals.resumeRefusal CallsRefusals.suspendRefusal CallsRefusals.terminateRefusal CallsRefusals.resetRefusal CallsRefusals.threadOnlyRefusal CallsRefusals.abortRefusal CallsRefusals.priorityRefusal CallsRefusals.preemptionRefusal CallsRefusals.tickRefusal CallsRefusals.readRefusal CallsRefusals.semaphoreCreateRefusal CallsRefusals.semaphoreDeleteRefusal CallsRefusals.semaphoreGetRefusal CallsRefusals.semaphoreRefusal CallsRefusals.ceilingRefusal CallsRefusals.queueCreateRefusal CallsRefusals.queueDeleteRefusal CallsRefusals.sendRefusal CallsRefusals.receiveRefusal CallsRefusals.queueRefusal CallsRefusals.groupCreateRefusal CallsRefusals.groupDeleteRefusal CallsRefusals.setRefusal CallsRefusals.getRefusal CallsRefusals.poolCreateRefusal CallsRefusals.poolDeleteRefusal CallsRefusals.allocateRefusal CallsRefusals.releaseRefusal CallsRefusals.poolRefusal WaitingFit.blankFrom WaitingFit.waitsOnb WaitingFit.sendsb WaitingFit.statusFitb WaitingFit.wordsFitb WaitingFit.senderFitb WaitingFit.requestFitb WaitingFit.unheldFitb WaitingFit.heldFitb WaitingFit.semaphoreWaitb WaitingFit.queueWaitb WaitingFit.groupWaitb WaitingFit.poolWaitb WaitingFit.semaphoresFitb WaitingFit.queuesFitb WaitingFit.groupsFitb WaitingFit.poolsFitb WaitingTicks.timedb WaitingTicks.timeoutStatus WaitingTicks.withTicks WaitingTicks.lastTickb KernelAnswers.answerOf KernelAnswers.refused KernelAnswers.carried KernelAnswers.guarded KernelAnswers.answered KernelClock.timeGet KernelClock.timeSet KernelClock.tick KernelGeneral.service KernelGeneral.byCaller KernelGeneral.byRecord KernelGeneral.step KernelGeneral.unsound KernelGeneral.call KernelGroups.groupCreate KernelGroups.groupDelete KernelGroups.wokenBy KernelGroups.clearsBy KernelGroups.setOr KernelGroups.setAnd KernelGroups.groupSet KernelGroups.groupGet KernelPools.poolCreate KernelPools.poolDelete KernelPools.blockAllocate KernelPools.blockRelease KernelPools.poolPrioritize KernelQueues.queueCreate KernelQueues.endQueue KernelQueues.queueDelete KernelQueues.sendTo KernelQueues.queueSend KernelQueues.receivePast KernelQueues.receiveFrom KernelQueues.queueReceive KernelQueues.queueFlush KernelQueues.queuePrioritize KernelSemaphores.counting KernelSemaphores.semaphoreCreate KernelSemaphores.semaphoreDelete KernelSemaphores.semaphoreGet KernelSemaphores.putOn KernelSemaphores.semaphorePut KernelSemaphores.semaphoreCeilingPut KernelSemaphores.semaphorePrioritize KernelSound.waitFitb KernelSound.soundb KernelTables.started KernelTables.heldAt KernelTables.semaphoreAt KernelTables.queueAt KernelTables.groupAt KernelTables.poolAt KernelTables.withScheduler KernelTables.withHeld KernelTables.withSemaphore KernelTables.withQueue KernelTables.withGroup KernelTables.withPool KernelTables.withClock KernelTables.given KernelThreads.threadCreate KernelThreads.threadDelete KernelThreads.lifted KernelThreads.resumed KernelThreads.threadResume KernelThreads.threadSuspend KernelThreads.threadTerminate KernelThreads.threadReset KernelThreads.threadFinish KernelThreads.threadRelinquish KernelThreads.threadSleep KernelThreads.threadWaitAbort KernelThreads.threadPriorityChange KernelThreads.threadPreemptionChange KernelThreads.threadStateRead KernelThreads.threadWordsRead KernelWaits.endWait KernelWaits.endEach KernelWaits.startWait KernelWaits.tickOne KernelWaits.tickBelow KernelWaits.timedOut KernelWaits.oneMore KernelWaits.ticked
+unfolding said after withCount p3a p3b waits p9 asks p4 p5 p7 receive p8 timedOutGet answer LinesLines.members LinesLines.pad LinesLines.lineOf LinesLines.cleanb LinesLines.slotOf LinesLines.tally LinesLines.betterOf LinesLines.bestWithKey LinesLists.numbersFrom LinesLists.filter LinesLists.without LinesLists.toEnd LinesLists.toFront LinesLists.count LinesLists.below LinesLists.first LinesLists.firstWith LinesLists.leastOf LinesLists.firstOfKey LinesLists.bestOf LinesLists.prioritised LinesLists.unionOf LinesLogic.oneIf LinesLogic.implies LinesLogic.allBelow SchedulerChanges.withLevels SchedulerChanges.priorityChanged SchedulerChanges.preemptionChanged SchedulerChoice.bestAmong SchedulerChoice.bestReady SchedulerChoice.bestMarked SchedulerChoice.staysb SchedulerChoice.overtakesb SchedulerChoice.nextOf SchedulerChoice.withMark SchedulerChoice.replaced SchedulerChoice.ran SchedulerChoice.rescheduled SchedulerChoice.relinquished SchedulerChoice.wantedb SchedulerChoice.consideredOf SchedulerOrders.threadAt SchedulerOrders.lineAt SchedulerOrders.firstAt SchedulerOrders.withThread SchedulerOrders.withOrder SchedulerOrders.withRunner SchedulerOrders.started SchedulerOrders.moved SchedulerOrders.movedFront SchedulerOrders.joined SchedulerOrders.woken SchedulerOrders.keyAt SchedulerOrders.keysAt SchedulerOrders.prioritisedAt SchedulerSound.limitsb SchedulerSound.markFitb SchedulerSound.suspensionFitb SchedulerSound.ticksFitb SchedulerSound.objectFitb SchedulerSound.zerob SchedulerSound.fitb SchedulerSound.countedb SchedulerSound.steadyb SchedulerSound.runsb SchedulerSound.soundb SchedulerThreads.uncreated SchedulerThreads.noThread SchedulerThreads.readyb SchedulerThreads.sleepsb SchedulerThreads.waitsb SchedulerThreads.pausedb SchedulerThreads.markedb SchedulerThreads.standsb SchedulerThreads.numberOf SchedulerThreads.placedb SchedulerThreads.inState SchedulerThreads.awake SchedulerThreads.withSuspension SchedulerThreads.created ObjectsGroups.noGroup ObjectsGroups.groupWith ObjectsGroups.orOptionb ObjectsGroups.someSetb ObjectsGroups.allSetb ObjectsGroups.metb ObjectsGroups.clearsb ObjectsGroups.clearOf ObjectsGroups.lessFlags ObjectsPools.noPool ObjectsPools.blocksOf ObjectsPools.freeBlocks ObjectsPools.blockSizesb ObjectsPools.poolLimitsb ObjectsPools.onceb ObjectsPools.listingb ObjectsPools.listFitb ObjectsPools.poolZerob ObjectsPools.poolFitb ObjectsPools.listing ObjectsPools.freshPool ObjectsPools.usedb ObjectsPools.nextBlock ObjectsPools.withoutNext ObjectsPools.withFree ObjectsPools.blockStart ObjectsQueues.noQueue ObjectsQueues.capacityOf ObjectsQueues.emptyb ObjectsQueues.fullb ObjectsQueues.roomb ObjectsQueues.usedWords ObjectsQueues.sizesFitb ObjectsQueues.queueLimitsb ObjectsQueues.storeFitb ObjectsQueues.queueZerob ObjectsQueues.queueFitb ObjectsQueues.emptyQueue ObjectsQueues.storedWords ObjectsQueues.storing ObjectsQueues.oldest ObjectsQueues.withoutOldest ObjectsQueues.withLast ObjectsQueues.withFirst ObjectsQueues.withSent ObjectsQueues.givenPast ObjectsQueues.leftPast ObjectsQueues.flushed ObjectsSemaphores.noSemaphore ObjectsSlots.zeroFrom ObjectsViews.viewedb ObjectsViews.extentOf ObjectsViews.viewed ObjectsViews.onwards ObjectsViews.written ObjectsViews.p8 ObjectsViews.p8Area CallsCalls.knownCall CallsCalls.decoded CallsHeld.holding CallsHeld.sending CallsHeld.requesting CallsMessages.messageIn CallsRefusals.unless CallsRefusals.firstOf CallsRefusals.createRefusal CallsRefusals.deleteRefusal CallsRefusals.resumeRefusal CallsRefusals.suspendRefusal CallsRefusals.terminateRefusal CallsRefusals.resetRefusal CallsRefusals.threadOnlyRefusal CallsRefusals.abortRefusal CallsRefusals.priorityRefusal CallsRefusals.preemptionRefusal CallsRefusals.tickRefusal CallsRefusals.readRefusal CallsRefusals.semaphoreCreateRefusal CallsRefusals.semaphoreDeleteRefusal CallsRefusals.semaphoreGetRefusal CallsRefusals.semaphoreRefusal CallsRefusals.ceilingRefusal CallsRefusals.queueCreateRefusal CallsRefusals.queueDeleteRefusal CallsRefusals.sendRefusal CallsRefusals.receiveRefusal CallsRefusals.queueRefusal CallsRefusals.groupCreateRefusal CallsRefusals.groupDeleteRefusal CallsRefusals.setRefusal CallsRefusals.getRefusal CallsRefusals.poolCreateRefusal CallsRefusals.poolDeleteRefusal CallsRefusals.allocateRefusal CallsRefusals.releaseRefusal CallsRefusals.poolRefusal WaitingFit.blankFrom WaitingFit.waitsOnb WaitingFit.sendsb WaitingFit.statusFitb WaitingFit.wordsFitb WaitingFit.senderFitb WaitingFit.requestFitb WaitingFit.unheldFitb WaitingFit.heldFitb WaitingFit.semaphoreWaitb WaitingFit.queueWaitb WaitingFit.groupWaitb WaitingFit.poolWaitb WaitingFit.semaphoresFitb WaitingFit.queuesFitb WaitingFit.groupsFitb WaitingFit.poolsFitb WaitingTicks.timedb WaitingTicks.timeoutStatus WaitingTicks.withTicks WaitingTicks.lastTickb KernelAnswers.answerOf KernelAnswers.refused KernelAnswers.carried KernelAnswers.guarded KernelAnswers.answered KernelClock.timeGet KernelClock.timeSet KernelClock.tick KernelGeneral.service KernelGeneral.byCaller KernelGeneral.byRecord KernelGeneral.step KernelGeneral.unsound KernelGeneral.call KernelGroups.groupCreate KernelGroups.groupDelete KernelGroups.wokenBy KernelGroups.clearsBy KernelGroups.setOr KernelGroups.setAnd KernelGroups.groupSet KernelGroups.groupGet KernelPools.poolCreate KernelPools.poolDelete KernelPools.blockAllocate KernelPools.blockRelease KernelPools.poolPrioritize KernelQueues.queueCreate KernelQueues.endQueue KernelQueues.queueDelete KernelQueues.sendTo KernelQueues.queueSend KernelQueues.receivePast KernelQueues.receiveFrom KernelQueues.queueReceive KernelQueues.queueFlush KernelQueues.queuePrioritize KernelSemaphores.counting KernelSemaphores.semaphoreCreate KernelSemaphores.semaphoreDelete KernelSemaphores.semaphoreGet KernelSemaphores.putOn KernelSemaphores.semaphorePut KernelSemaphores.semaphoreCeilingPut KernelSemaphores.semaphorePrioritize KernelSound.waitFitb KernelSound.soundb KernelTables.started KernelTables.heldAt KernelTables.semaphoreAt KernelTables.queueAt KernelTables.groupAt KernelTables.poolAt KernelTables.withScheduler KernelTables.withHeld KernelTables.withSemaphore KernelTables.withQueue KernelTables.withGroup KernelTables.withPool KernelTables.withClock KernelTables.given KernelThreads.threadCreate KernelThreads.threadDelete KernelThreads.lifted KernelThreads.resumed KernelThreads.threadResume KernelThreads.threadSuspend KernelThreads.threadTerminate KernelThreads.threadReset KernelThreads.threadFinish KernelThreads.threadRelinquish KernelThreads.threadSleep KernelThreads.threadWaitAbort KernelThreads.threadPriorityChange KernelThreads.threadPreemptionChange KernelThreads.threadStateRead KernelThreads.threadWordsRead KernelViews.viewedPool KernelViews.blockExtent KernelViews.blockView KernelViews.blockWritten KernelWaits.endWait KernelWaits.endEach KernelWaits.startWait KernelWaits.tickOne KernelWaits.tickBelow KernelWaits.timedOut KernelWaits.oneMore KernelWaits.ticked
 cases =
     record {
       p1 = refl;
@@ -47,7 +49,7 @@ cases =
       p6 = (refl, refl);
       p7 = (refl, refl, refl);
       p8blocks = refl;
-      p8given = refl;
+      p8view = refl;
       p8released = (refl, refl);
       p9line = refl;
       p10 = (refl, refl);
