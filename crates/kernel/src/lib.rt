@@ -95,7 +95,8 @@ impl Kernel {
         }
     }
 
-    // The answer of a call that was carried out, after which thread `t` holds `h` and the next thread is chosen on `s`.
+    // The same where thread `t` holds `h` afterwards. It costs a copy of the tables more than a store of the caller's own, so
+    // the services that start and end waits do without.
     pub fn held_carried(
         mut self,
         t: ThreadId,
@@ -110,16 +111,7 @@ impl Kernel {
         if i < 32 {
             self.held[i] = h;
         }
-        let chosen = s.rescheduled(false);
-        let next = chosen.running;
-        self.scheduler = chosen;
-        Answer {
-            status,
-            words: [0; 16],
-            next,
-            ended,
-            kernel: self,
-        }
+        self.carried(s, status, [0; 16], ended)
     }
 }
 

@@ -107,9 +107,11 @@ impl Kernel {
         }
         let s = self.scheduler;
         let f = s.first_at(place(n));
-        if f.0 < 32 {
+        let i = f.0 as usize;
+        if i < 32 {
             let h = Held::of(SUCCESS, two_words(block as u32, 0));
-            return self.held_carried(f, h, s.woken(f), SUCCESS, 1);
+            self.held[i] = h;
+            return self.carried(s.woken(f), SUCCESS, [0; 16], 1);
         }
         let changed = pools_with(all, n, p.with_free(block));
         self.pools = changed;

@@ -96,7 +96,7 @@ impl Kernel {
     }
 
     // A message goes to the first receiver in line, or into the store, or waits with its sender.
-    fn sent(self, n: QueueId, q: Queue, wait: u32, front: bool, message: [u32; 16]) -> Answer
+    fn sent(mut self, n: QueueId, q: Queue, wait: u32, front: bool, message: [u32; 16]) -> Answer
         ensures { λ r. ⌜ r ≡ answerOf (sendTo self (n .0) q wait front message) ⌝ }
     {
         if !q.has_room() {
@@ -104,8 +104,11 @@ impl Kernel {
         }
         let s = self.scheduler;
         let f = s.first_at(place(n));
-        if f.0 < 32 {
-            return self.held_carried(f, Held::of(SUCCESS, message), s.woken(f), SUCCESS, 1);
+        let i = f.0 as usize;
+        if i < 32 {
+            let h = Held::of(SUCCESS, message);
+            self.held[i] = h;
+            return self.carried(s.woken(f), SUCCESS, [0; 16], 1);
         }
         self.queue_carried(n, q.with_sent(front, message), s, [0; 16], 0)
     }

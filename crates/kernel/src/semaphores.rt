@@ -86,8 +86,11 @@ impl Kernel {
     {
         let s = self.scheduler;
         let f = s.first_at(place(n));
-        if f.0 < 32 {
-            return self.held_carried(f, Held::of(SUCCESS, [0; 16]), s.woken(f), SUCCESS, 1);
+        let i = f.0 as usize;
+        if i < 32 {
+            let h = Held::of(SUCCESS, [0; 16]);
+            self.held[i] = h;
+            return self.carried(s.woken(f), SUCCESS, [0; 16], 1);
         }
         let all = self.semaphores;
         let x = semaphore_in(all, n);

@@ -16,14 +16,22 @@ use lines::ThreadId;
 
 impl Kernel {
     // The running thread now waits or sleeps, and holds `h` meanwhile.
-    pub fn started_wait(self, front: bool, state: u8, object: u8, ticks: u32, h: Held) -> Answer
+    pub fn started_wait(mut self, front: bool, state: u8, object: u8, ticks: u32, h: Held) -> Answer
         ensures { λ r. ⌜ r ≡ answerOf (carried (startWait self front state object ticks h) waiting noWords []) ⌝ }
     {
         let s = self.scheduler;
         let t = s.running;
         let th = s.thread_at(t);
-        let waiter = th.in_state(state, object, ticks);
-        self.held_carried(t, h, s.joined(front, t, waiter), WAITING, 0)
+        let i = t.0 as usize;
+        if i < 32 {
+            self.held[i] = h;
+        }
+        self.carried(
+            s.joined(front, t, th.in_state(state, object, ticks)),
+            WAITING,
+            [0; 16],
+            0,
+        )
     }
 
     // The waits of all in the line end with a status and words, in order, and the call is done.

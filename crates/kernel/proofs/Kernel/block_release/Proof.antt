@@ -27,7 +27,7 @@ unfolding blockRelease poolAt
 returns c =
     let a = c .before .before .before .before .before .args in
     let e = c .before .before .release .ensures ∙ ap (λ (x : Pool). releaseRefusal x (a .block)) (c .before .before .before .pool-in .ensures) in
-    c .refused .ensures ∙ ap answerOf (ap (refused (a .self)) e ∙ sym (is-refused (a .self) (releaseRefusal (poolAt (a .self) (a .n .0)) (a .block)) _ (λ w. c .before .if1 .taken (e ∙ w))))
+    c .refused .ensures ∙ ap answerOf (ap (refused (a .t1)) e ∙ sym (is-refused (a .t1) (releaseRefusal (poolAt (a .t1) (a .n .0)) (a .block)) _ (λ w. c .before .if1 .taken (e ∙ w))))
 
 place-requires : tie.Need-place-requires
 place-requires c κs = search needs
@@ -35,26 +35,35 @@ place-requires c κs = search needs
 first-at-requires : tie.Need-first-at-requires
 first-at-requires c κs = search needs
 
+cast-i : tie.Need-cast-i
+cast-i c = search needs
+
 two-words-requires : tie.Need-two-words-requires
 two-words-requires c κs = search needs
 
 of-requires : tie.Need-of-requires
 of-requires c κs = search needs
 
+mul-h : tie.Need-mul-h
+mul-h c = search needs
+
+element-set-from-h : tie.Need-element-set-from-h
+element-set-from-h c = search needs
+
 woken-requires : tie.Need-woken-requires
 woken-requires c κs = search needs
 
-held-carried-requires : tie.Need-held-carried-requires
-held-carried-requires c κs = search needs
+carried-requires : tie.Need-carried-requires
+carried-requires c κs = search needs
 
 returns-2 : tie.Need-returns-2
-unfolding blockRelease endWait poolAt answerOf carried answered withHeld withScheduler
+unfolding blockRelease endWait answerOf carried answered withHeld withScheduler poolAt
 returns-2 c =
     let a = c .before .before .before .before .before .before .before .before .before .before .before .before .before .args in
     let e = c .before .before .before .before .before .before .before .before .before .before .release .ensures ∙ ap (λ (x : Pool). releaseRefusal x (a .block)) (c .before .before .before .before .before .before .before .before .before .before .before .pool-in .ensures) in
-    let z : releaseRefusal (poolAt (a .self) (a .n .0)) (a .block) ≡ 0 = sym e ∙ c .before .before .before .before .before .before .before .before .before .if1 .left in
-    let f : c .before .before .before .before .before .before .first-at .result .0 ≡ firstAt (a .self .scheduler) (poolPlace (a .n .0)) = c .before .before .before .before .before .before .first-at .ensures ∙ ap (firstAt (a .self .scheduler)) (c .before .before .before .before .before .before .before .place .ensures) in
-    rw (is-carried, ← f, lt-ltb (c .before .before .before .before .before .before .first-at .result .0) 32 (c .before .before .before .before .if2 .taken)) (c .held-carried .ensures ∙ rw (c .before .woken .ensures, c .before .before .of .ensures, c .before .before .before .two-words .ensures))
+    let z : releaseRefusal (poolAt (a .t1) (a .n .0)) (a .block) ≡ 0 = sym e ∙ c .before .before .before .before .before .before .before .before .before .if1 .left in
+    let f : c .before .before .before .before .before .before .first-at .result .0 ≡ firstAt (a .t1 .scheduler) (poolPlace (a .n .0)) = c .before .before .before .before .before .before .first-at .ensures ∙ ap (firstAt (a .t1 .scheduler)) (c .before .before .before .before .before .before .before .place .ensures) in
+    rw (is-carried, ← f, lt-ltb (c .before .before .before .before .before .before .first-at .result .0) 32 (c .before .before .before .before .if2 .taken)) (c .carried .ensures ∙ rw (c .before .woken .ensures, c .before .before .of .ensures, c .before .before .before .two-words .ensures))
 
 with-free-requires : tie.Need-with-free-requires
 with-free-requires c κs = search needs
@@ -62,8 +71,8 @@ with-free-requires c κs = search needs
 pools-with-requires : tie.Need-pools-with-requires
 pools-with-requires c κs = search needs
 
-carried-requires : tie.Need-carried-requires
-carried-requires c κs = search needs
+carried-requires-2 : tie.Need-carried-requires-2
+carried-requires-2 c κs = search needs
 
 returns-3 : tie.Need-returns-3
 unfolding blockRelease answerOf carried answered withScheduler withPool poolAt
@@ -71,10 +80,10 @@ returns-3 c =
     let a = c .before .before .before .before .before .before .before .before .before .before .before .before .args in
     let i = c .before .before .before .before .before .before .before .before .before .before .pool-in .ensures in
     let e = c .before .before .before .before .before .before .before .before .before .release .ensures ∙ ap (λ (x : Pool). releaseRefusal x (a .block)) i in
-    let z : releaseRefusal (poolAt (a .self) (a .n .0)) (a .block) ≡ 0 = sym e ∙ c .before .before .before .before .before .before .before .before .if1 .left in
-    let f : c .before .before .before .before .before .first-at .result .0 ≡ firstAt (a .self .scheduler) (poolPlace (a .n .0)) = c .before .before .before .before .before .first-at .ensures ∙ ap (firstAt (a .self .scheduler)) (c .before .before .before .before .before .before .place .ensures) in
+    let z : releaseRefusal (poolAt (a .t1) (a .n .0)) (a .block) ≡ 0 = sym e ∙ c .before .before .before .before .before .before .before .before .if1 .left in
+    let f : c .before .before .before .before .before .first-at .result .0 ≡ firstAt (a .t1 .scheduler) (poolPlace (a .n .0)) = c .before .before .before .before .before .first-at .ensures ∙ ap (firstAt (a .t1 .scheduler)) (c .before .before .before .before .before .before .place .ensures) in
     let w = c .before .before .with-free .ensures ∙ ap (λ (x : Pool). withFree x (a .block)) i in
-    rw (is-carried, ← f, le-ltb (c .before .before .before .before .before .first-at .result .0) 32 (c .before .before .before .if2 .left)) (c .carried .ensures ∙ rw (c .before .pools-with .ensures, w))
+    rw (is-carried, ← f, le-ltb (c .before .before .before .before .before .first-at .result .0) 32 (c .before .before .before .if2 .left)) (c .carried2 .ensures ∙ rw (c .before .pools-with .ensures, w))
 
 pub block-release-spec : {M : Type 1} → statement M
 block-release-spec =
@@ -86,12 +95,15 @@ block-release-spec =
     returns
     place-requires
     first-at-requires
+    cast-i
     two-words-requires
     of-requires
+    mul-h
+    element-set-from-h
     woken-requires
-    held-carried-requires
+    carried-requires
     returns-2
     with-free-requires
     pools-with-requires
-    carried-requires
+    carried-requires-2
     returns-3)

@@ -1,9 +1,11 @@
-use mathlib.Core.Path.{_≡_, sym, _∙_}
+use mathlib.Core.Path.{_≡_, sym, ap, _∙_}
 use mathlib.Core.Logic.{⊎-elim}
 use borrow.Author.Needs.{needs}
 use lib.ListN.{length}
 use Rattle.scheduler.proofs.Laws.Threads.{length-mapped}
-use Rattle.kernel.specs.Tables.{withScheduler, withHeld}
+use Rattle.calls.specs.Held.{noWords}
+use Rattle.kernel.specs.declared.Kernel.{Kernel}
+use Rattle.kernel.specs.Tables.{withHeld}
 use Rattle.kernel.specs.Answers.{answered}
 use Rattle.kernel.proofs.Laws.Answers.{held-out}
 use Rattle.kernel.proofs.Kernel.held_carried.Statement.{statement}
@@ -18,17 +20,16 @@ mul-h c = search needs
 element-set-from-h : tie.Need-element-set-from-h
 element-set-from-h c = search needs
 
-rescheduled-requires : tie.Need-rescheduled-requires
-rescheduled-requires c κs = search needs
+carried-requires : tie.Need-carried-requires
+carried-requires c κs = search needs
 
 returns : tie.Need-returns
-unfolding answered withScheduler withHeld
+unfolding withHeld
 returns c =
-    let a = c .before .before .before .before .args in
-    let l : length (a .t1 .held) ≡ 32 = length-mapped _ (a .t1 .held) 32 (c .before .before .before .before .good .0 .1 .1 .1 .0 .1 .0 .1) in
-    let m : c .before .before .if1 .self ≡ withHeld (a .t1) (a .t .0) (a .h) = ⊎-elim (λ w. w .1) (λ w. w .1 ∙ sym (held-out (a .t1) (a .t .0) (a .h) l (w .0 .left))) (c .before .before .if1 .came) in
-    rw (m, c .before .rescheduled .ensures)
+    let a = c .before .before .before .args in
+    let l : length (a .t1 .held) ≡ 32 = length-mapped _ (a .t1 .held) 32 (c .before .before .before .good .0 .1 .1 .1 .0 .1 .0 .1) in
+    let m : c .before .if1 .self ≡ withHeld (a .t1) (a .t .0) (a .h) = ⊎-elim (λ w. w .1) (λ w. w .1 ∙ sym (held-out (a .t1) (a .t .0) (a .h) l (w .0 .left))) (c .before .if1 .came) in
+    c .carried .ensures ∙ ap (λ (k : Kernel). answered k (a .s) (a .status) noWords (a .ended)) m
 
 pub held-carried-spec : {M : Type 1} → statement M
-held-carried-spec =
-    tie.close (tie.spec cast-i mul-h element-set-from-h rescheduled-requires returns)
+held-carried-spec = tie.close (tie.spec cast-i mul-h element-set-from-h carried-requires returns)

@@ -1,8 +1,10 @@
 use mathlib.Core.Path.{_≡_, sym, ap, _∙_}
 use mathlib.Core.Bool.{true, false}
+use Prim.Native.Nat.{_-_}
 use borrow.Author.Needs.{needs}
 use borrow.Author.Tests.{lt-ltb, le-ltb, not-true, not-false}
-use Rattle.scheduler.specs.Orders.{firstAt}
+use mathlib.Core.Path.{_≡_, sym, ap, _∙_}
+use Rattle.scheduler.specs.Orders.{firstAt, woken}
 use Rattle.objects.specs.Queues.{roomb}
 use Rattle.kernel.specs.Tables.{withScheduler, withHeld, withQueue}
 use Rattle.kernel.specs.Answers.{answerOf, carried, answered}
@@ -33,22 +35,31 @@ place-requires c κs = search needs
 first-at-requires : tie.Need-first-at-requires
 first-at-requires c κs = search needs
 
+cast-i : tie.Need-cast-i
+cast-i c = search needs
+
 of-requires : tie.Need-of-requires
 of-requires c κs = search needs
+
+mul-h : tie.Need-mul-h
+mul-h c = search needs
+
+element-set-from-h : tie.Need-element-set-from-h
+element-set-from-h c = search needs
 
 woken-requires : tie.Need-woken-requires
 woken-requires c κs = search needs
 
-held-carried-requires : tie.Need-held-carried-requires
-held-carried-requires c κs = search needs
+carried-requires : tie.Need-carried-requires
+carried-requires c κs = search needs
 
 returns-2 : tie.Need-returns-2
 unfolding sendTo endWait answerOf carried answered withHeld withScheduler
 returns-2 c =
     let a = c .before .before .before .before .before .before .before .before .before .before .args in
     let r : roomb (a .q) ≡ true = sym (c .before .before .before .before .before .before .before .before .before .has-room .ensures) ∙ not-false (c .before .before .before .before .before .before .before .before .before .has-room .result) (c .before .before .before .before .before .before .before .before .if1 .left) in
-    let f : c .before .before .before .before .before .first-at .result .0 ≡ firstAt (a .self .scheduler) (queuePlace (a .n .0)) = c .before .before .before .before .before .first-at .ensures ∙ ap (firstAt (a .self .scheduler)) (c .before .before .before .before .before .before .place .ensures) in
-    rw (r, ← f, lt-ltb (c .before .before .before .before .before .first-at .result .0) 32 (c .before .before .before .if2 .taken)) (c .held-carried .ensures ∙ rw (c .before .woken .ensures, c .before .before .of .ensures))
+    let f : c .before .before .before .before .before .first-at .result .0 ≡ firstAt (a .t1 .scheduler) (queuePlace (a .n .0)) = c .before .before .before .before .before .first-at .ensures ∙ ap (firstAt (a .t1 .scheduler)) (c .before .before .before .before .before .before .place .ensures) in
+    rw (r, ← f, lt-ltb (c .before .before .before .before .before .first-at .result .0) 32 (c .before .before .before .if2 .taken)) (c .carried .ensures ∙ rw (c .before .woken .ensures, c .before .before .of .ensures))
 
 with-sent-requires : tie.Need-with-sent-requires
 with-sent-requires c κs = search needs
@@ -61,7 +72,7 @@ unfolding sendTo answerOf carried answered withScheduler withQueue
 returns-3 c =
     let a = c .before .before .before .before .before .before .before .before .before .args in
     let r : roomb (a .q) ≡ true = sym (c .before .before .before .before .before .before .before .before .has-room .ensures) ∙ not-false (c .before .before .before .before .before .before .before .before .has-room .result) (c .before .before .before .before .before .before .before .if1 .left) in
-    let f : c .before .before .before .before .first-at .result .0 ≡ firstAt (a .self .scheduler) (queuePlace (a .n .0)) = c .before .before .before .before .first-at .ensures ∙ ap (firstAt (a .self .scheduler)) (c .before .before .before .before .before .place .ensures) in
+    let f : c .before .before .before .before .first-at .result .0 ≡ firstAt (a .t1 .scheduler) (queuePlace (a .n .0)) = c .before .before .before .before .first-at .ensures ∙ ap (firstAt (a .t1 .scheduler)) (c .before .before .before .before .before .place .ensures) in
     rw (r, ← f, le-ltb (c .before .before .before .before .first-at .result .0) 32 (c .before .before .if2 .left)) (c .queue-carried .ensures ∙ rw (c .before .with-sent .ensures))
 
 pub sent-spec : {M : Type 1} → statement M
@@ -74,9 +85,12 @@ sent-spec =
     returns
     place-requires
     first-at-requires
+    cast-i
     of-requires
+    mul-h
+    element-set-from-h
     woken-requires
-    held-carried-requires
+    carried-requires
     returns-2
     with-sent-requires
     queue-carried-requires
