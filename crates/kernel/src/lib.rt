@@ -95,8 +95,8 @@ impl Kernel {
         }
     }
 
-    // The same where thread `t` holds `h` afterwards. It costs a copy of the tables more than a store of the caller's own, so
-    // the services that start and end waits do without.
+    // The same where thread `t` holds `h` afterwards: for services that are called seldom, since it costs a copy of the tables
+    // more than a store of the caller's own.
     pub fn held_carried(
         mut self,
         t: ThreadId,
