@@ -9,3 +9,4 @@ pub mod Rolls
 pub mod Counts
 pub mod Serving
 pub mod Claims
+pub mod AccountsServed
