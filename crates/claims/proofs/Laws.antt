@@ -10,3 +10,4 @@ pub mod Counts
 pub mod Serving
 pub mod Claims
 pub mod AccountsServed
+pub mod AccountsRecords

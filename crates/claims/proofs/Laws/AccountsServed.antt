@@ -98,6 +98,10 @@ timeout-some th h w =
     Some : ℕ → Type 0
     Some n = n ≡ 0 → ⊥
 
+-- those who wait at p in tables k and are served in tables x
+abbrev pub later : Place → Kernel → Kernel → ℕ
+later p k x = length (filter (servedb x) (lineAt (k .scheduler) p))
+
 module _ (p : Place) (waits : 4 < p .state) (k : Kernel) (S : Sound k) where
   abbrev T : Steady (k .scheduler)
   T = S .scheduler .steady
@@ -107,10 +111,6 @@ module _ (p : Place) (waits : 4 < p .state) (k : Kernel) (S : Sound k) where
 
   abbrev line : List ℕ
   line = lineAt (k .scheduler) p
-
-  -- those of the line whom other tables show as served
-  abbrev pub later : Kernel → ℕ
-  later x = length (filter (servedb x) line)
 
   -- "each waiter or sleeper holds 0x101"
   waiter-status : (u : ℕ) → 0 < count u line → heldAt k u .status ≡ Statuses.waiting
@@ -123,27 +123,27 @@ module _ (p : Place) (waits : 4 < p .state) (k : Kernel) (S : Sound k) where
       eqb-true (h .status) Statuses.waiting (implies-out (pausedb th) (eqb (h .status) Statuses.waiting) (and-left (implies (pausedb th) (eqb (h .status) Statuses.waiting)) _ s) (w .1))
 
   -- ---- nobody is served
-  later-none : (x : Kernel) → ((u : ℕ) → 0 < count u line → servedb x u ≡ false) → later x ≡ 0
+  later-none : (x : Kernel) → ((u : ℕ) → 0 < count u line → servedb x u ≡ false) → later p k x ≡ 0
   later-none x = filter-none (servedb x) line
 
   -- who holds what it held while it waited
   same-unserved : (x : Kernel) (u : ℕ) → 0 < count u line → heldAt x u ≡ heldAt k u → servedb x u ≡ false
   same-unserved x u c e = unserved x u (λ z. let w = waiter-status u c in let y = ap (λ (h : Held). h .status) e in omega (arith, z, w, y))
 
-  pub later-held : (x : Kernel) → ((u : ℕ) → 0 < count u line → heldAt x u ≡ heldAt k u) → later x ≡ 0
+  pub later-held : (x : Kernel) → ((u : ℕ) → 0 < count u line → heldAt x u ≡ heldAt k u) → later p k x ≡ 0
   later-held x h = later-none x (λ u c. same-unserved x u c (h u c))
 
   -- nobody waits
-  pub later-nobody : (x : Kernel) → ltb (firstAt (k .scheduler) p) 32 ≡ false → later x ≡ 0
+  pub later-nobody : (x : Kernel) → ltb (firstAt (k .scheduler) p) 32 ≡ false → later p k x ≡ 0
   unfolding oneIf
   later-nobody x f = later-none x (λ u c. absurd (let z = Orders.line-count (k .scheduler) T u p ∙ ap oneIf (States.none-placed-there (k .scheduler) T p f u) in omega (arith, c, z)))
 
   -- one thread leaves the line, and is not served
-  later-gone : (x : Kernel) (t : ℕ) → Members.Leaves p k x t → servedb x t ≡ false → later x ≡ 0
+  later-gone : (x : Kernel) (t : ℕ) → Members.Leaves p k x t → servedb x t ≡ false → later p k x ≡ 0
   later-gone x t a n = later-none x (λ u c. by-eq u t (λ q. ap (servedb x) q ∙ n) (λ q. same-unserved x u c (a .held u q)))
 
   -- the first leaves it, and is served
-  later-first : (x : Kernel) → ltb (firstAt (k .scheduler) p) 32 ≡ true → Members.Leaves p k x (firstAt (k .scheduler) p) → servedb x (firstAt (k .scheduler) p) ≡ true → later x ≡ 1
+  later-first : (x : Kernel) → ltb (firstAt (k .scheduler) p) 32 ≡ true → Members.Leaves p k x (firstAt (k .scheduler) p) → servedb x (firstAt (k .scheduler) p) ≡ true → later p k x ≡ 1
   unfolding firstAt
   later-first x f a y =
       filter-first (servedb x) line (ltb-true (first line) 32 f) (Orders.line-once (k .scheduler) T (first line) p) y (λ u c q. same-unserved x u c (a .held u q))
@@ -170,14 +170,14 @@ module _ (p : Place) (waits : 4 < p .state) (k : Kernel) (S : Sound k) where
           carried-finished (endWait k t status words) (Members.leaves-end p waits k T t status words made .steady) given gives ended t
           ∙ ap finishedb (Still.end-self k T t status words made) ∙ awake-unfinished (threadOf k t)
 
-      pub later-ended : (status ≡ 0 → ⊥) → later awoken ≡ 0
+      pub later-ended : (status ≡ 0 → ⊥) → later p k awoken ≡ 0
       later-ended n = later-gone awoken t leaves (unserved awoken t (λ z. n (sym awoken-status ∙ z)))
 
       served-now : status ≡ 0 → servedb awoken t ≡ true
       unfolding servedb
       served-now z = and-in (eqb (heldAt awoken t .status) 0) _ (eq-eqb _ 0 (awoken-status ∙ z)) (ap not awoken-unfinished)
 
-    pub later-terminated : (th : Thread) → fitb th ≡ true → placedb p th ≡ false → finishedb th ≡ true → (given : ℕ) (gives ended : List ℕ) → later (carried (Tables.given k t th noHeld) given gives ended .kernel) ≡ 0
+    pub later-terminated : (th : Thread) → fitb th ≡ true → placedb p th ≡ false → finishedb th ≡ true → (given : ℕ) (gives ended : List ℕ) → later p k (carried (Tables.given k t th noHeld) given gives ended .kernel) ≡ 0
     later-terminated th fit away f given gives ended =
         let x = Tables.given k t th noHeld in
         let a = Members.leaves-given p k T t th noHeld small fit away in
@@ -189,7 +189,7 @@ module _ (p : Place) (waits : 4 < p .state) (k : Kernel) (S : Sound k) where
   unfolding oneIf
   line-state u c = by-eq (threadOf k u .state) (p .state) (λ e. e) (λ n. absurd (let z = Orders.line-count (k .scheduler) T u p ∙ ap oneIf (Still.other-state p (threadOf k u) n) in omega (arith, c, z)))
 
-  pub later-ticked : (status : ℕ) (words ended : List ℕ) → later (carried (ticked k) status words ended .kernel) ≡ 0
+  pub later-ticked : (status : ℕ) (words ended : List ℕ) → later p k (carried (ticked k) status words ended .kernel) ≡ 0
   later-ticked status words ended =
       let x = carried (ticked k) status words ended .kernel in
       later-none x
@@ -198,7 +198,7 @@ module _ (p : Place) (waits : 4 < p .state) (k : Kernel) (S : Sound k) where
       (λ e. unserved x u (λ z. timeout-some (threadOf k u) (heldAt k u) (let s = line-state u c in omega (arith, s, waits)) (sym e ∙ z))))
 
   -- the first is served
-  pub later-served : (f : ltb (firstAt (k .scheduler) p) 32 ≡ true) → (words ended : List ℕ) → later (carried (endWait k (firstAt (k .scheduler) p) Statuses.success words) Statuses.success noWords ended .kernel) ≡ 1
+  pub later-served : (f : ltb (firstAt (k .scheduler) p) 32 ≡ true) → (words ended : List ℕ) → later p k (carried (endWait k (firstAt (k .scheduler) p) Statuses.success words) Statuses.success noWords ended .kernel) ≡ 1
   later-served f words ended =
       let t = firstAt (k .scheduler) p in
       let made = Still.placed-made p (threadOf k t) (first-placed (k .scheduler) p (ltb-true t 32 f)) in
