@@ -11,3 +11,4 @@ pub mod Serving
 pub mod Claims
 pub mod AccountsServed
 pub mod AccountsRecords
+pub mod AccountsSteps

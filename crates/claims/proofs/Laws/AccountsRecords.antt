@@ -5,7 +5,7 @@ use mathlib.Core.Bool.{Bool, true, false}
 use Prim.Native.Nat.{ℕ, zero, suc, _<_}
 use native.Mathlib.Omega.{arith}
 use lib.ListN.{getD}
-use lib.Seq.{getD-set-other}
+use lib.Seq.{getD-set-same, getD-set-other}
 use lib.Dec.{eqb}
 use borrow.Author.Tests.{eqb-true}
 use Rattle.lines.specs.Logic.{if_then_else_}
@@ -22,6 +22,7 @@ use Rattle.kernel.specs.Answers.{Outcome, refused, carried, guarded}
 use Rattle.kernel.specs.Waits.{endWait, endEach, tickOne, tickBelow, ticked}
 use Rattle.kernel.specs.Semaphores.{semaphorePlace}
 use Rattle.kernel.specs.Pools.{poolPlace}
+use Rattle.kernel.specs.Sound.{Sound}
 
 -- every semaphore and every pool has the record that it had
 pub record Untouched (k x : Kernel) : Type 0 where
@@ -57,6 +58,16 @@ same-pool p k x n y away u =
       semaphore = same-untouched p k x u .semaphore;
       pool = λ z. getD-set-other (x .pools) n (p .number) y noPool (λ e. away (λ i. record { state = sym z i; number = sym e i })) ∙ same-untouched p k x u .pool z;
     }
+
+-- what is stored is there
+module _ (k : Kernel) (S : Sound k) (n : ℕ) where
+  pub semaphore-stored : (y : Semaphore) → n < 16 → semaphoreAt (withSemaphore k n y) n ≡ y
+  unfolding withSemaphore semaphoreAt
+  semaphore-stored y low = getD-set-same (k .semaphores) n y noSemaphore (let l = S .semaphoresSized in omega (arith, l, low))
+
+  pub pool-stored : (y : Pool) → n < 4 → poolAt (withPool k n y) n ≡ y
+  unfolding withPool poolAt
+  pool-stored y low = getD-set-same (k .pools) n y noPool (let l = S .poolsSized in omega (arith, l, low))
 
 -- ---- several waits end
 pub untouched-each : (k : Kernel) (status : ℕ) (words xs : List ℕ) → Untouched k (endEach k status words xs)
