@@ -12,3 +12,4 @@ pub mod Claims
 pub mod AccountsServed
 pub mod AccountsRecords
 pub mod AccountsSteps
+pub mod AccountsServices

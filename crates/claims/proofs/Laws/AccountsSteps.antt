@@ -59,7 +59,7 @@ pub data Effect (p : Place) (k : Kernel) (m : Made) (status : ℕ) (x : Kernel) 
 
 -- ---- which calls count
 -- numbers of calls that take nothing, and of those that neither give to nor take from a semaphore or a pool
-abbrev takelessb : ℕ → Bool
+abbrev pub takelessb : ℕ → Bool
 takelessb n = not (eqb n 18) && not (eqb n 26) && not (eqb n 35)
 
 abbrev pub plainb : ℕ → Bool
@@ -91,13 +91,13 @@ module _ (p : Place) (m : Made) where
   one-taken g = rw g refl
 
   module _ (queueless : p .state ≡ 5 → ⊥) where
-    gives-plain : plainb (m .number) ≡ true → givesb p m ≡ false
+    pub gives-plain : plainb (m .number) ≡ true → givesb p m ≡ false
     gives-plain q =
         by-test (givesb p m)
         (λ g. Serving.gives-by p m g (λ z n. never q (ap plainb n)) (λ z n. never q (ap plainb n)) (λ z n. absurd (queueless z)) (λ z n. absurd (queueless z)) (λ z n. never q (ap plainb n)))
         (λ g. g)
 
-    takes-plain : plainb (m .number) ≡ true → takesb p m ≡ false
+    pub takes-plain : plainb (m .number) ≡ true → takesb p m ≡ false
     takes-plain q = by-test (takesb p m) (λ g. Serving.takes-by p m g (λ z n. never q (ap plainb n)) (λ z n. absurd (queueless z)) (λ z n. never q (ap plainb n))) (λ g. g)
 
 -- ---- outcomes
@@ -155,7 +155,7 @@ module _ (k : Kernel) (S : Sound k) (m : Made) (s : ℕ) (low : s < 16) (on : m 
   unfolding takesb onb
   gets-here n = rw (eq-eqb (m .a) s on, n) refl
 
-  get-effect : m .number ≡ 18 → (caller : ℕ) → (eqb caller 2 ≡ true → runnerOf k < 32) → (wait : ℕ) → E sp w6 k S m (Semaphores.semaphoreGet k caller s wait)
+  pub get-effect : m .number ≡ 18 → (caller : ℕ) → (eqb caller 2 ≡ true → runnerOf k < 32) → (wait : ℕ) → E sp w6 k S m (Semaphores.semaphoreGet k caller s wait)
   unfolding Semaphores.semaphoreGet startWait withHeld withScheduler
   get-effect n caller runs wait =
       guarded-still sp w6 k S m _ _
@@ -165,7 +165,7 @@ module _ (k : Kernel) (S : Sound k) (m : Made) (s : ℕ) (low : s < 16) (on : m 
       (λ q a. carried-unmoved sp w6 k S m _ _ _ Statuses.waiting refl a (record { semaphores = refl; pools = refl })))
       (Quiet.semaphore-get-quiet sp w6 k S s caller runs wait)
 
-  put-effect : (eqb (m .number) 19 || eqb (m .number) 20) ≡ true → takelessb (m .number) ≡ true → E sp w6 k S m (Semaphores.putOn k s)
+  pub put-effect : (eqb (m .number) 19 || eqb (m .number) 20) ≡ true → takelessb (m .number) ≡ true → E sp w6 k S m (Semaphores.putOn k s)
   unfolding Semaphores.putOn endWait withHeld withScheduler givesb onb
   put-effect t l =
       let g : givesb sp m ≡ true = rw (eq-eqb (m .a) s on, t) refl in
@@ -190,7 +190,7 @@ module _ (k : Kernel) (S : Sound k) (m : Made) (l : ℕ) (low : l < 4) (on : m .
   unfolding givesb onb
   releases-here n = rw (eq-eqb (m .a) l on, n) refl
 
-  allocate-effect : m .number ≡ 35 → (caller : ℕ) → (eqb caller 2 ≡ true → runnerOf k < 32) → (wait : ℕ) → E lp w8 k S m (Pools.blockAllocate k caller l wait)
+  pub allocate-effect : m .number ≡ 35 → (caller : ℕ) → (eqb caller 2 ≡ true → runnerOf k < 32) → (wait : ℕ) → E lp w8 k S m (Pools.blockAllocate k caller l wait)
   unfolding Pools.blockAllocate startWait withHeld withScheduler
   allocate-effect n caller runs wait =
       guarded-still lp w8 k S m _ _
@@ -200,7 +200,7 @@ module _ (k : Kernel) (S : Sound k) (m : Made) (l : ℕ) (low : l < 4) (on : m .
       (λ q a. carried-unmoved lp w8 k S m _ _ _ Statuses.waiting refl a (record { semaphores = refl; pools = refl })))
       (Quiet.allocate-quiet lp w8 k S l caller runs wait)
 
-  release-effect : m .number ≡ 36 → (block : ℕ) → E lp w8 k S m (Pools.blockRelease k l block)
+  pub release-effect : m .number ≡ 36 → (block : ℕ) → E lp w8 k S m (Pools.blockRelease k l block)
   unfolding Pools.blockRelease Refusals.releaseRefusal endWait withHeld withScheduler
   release-effect n block =
       let g = releases-here n in

@@ -1,0 +1,289 @@
+-- Every call and the account of a semaphore or pool.
+use mathlib.Core.Path.{_≡_, refl, sym, ap, _∙_, subst}
+use mathlib.Core.List.{List, []}
+use mathlib.Core.Bool.{Bool, true, false, _&&_, _||_, not}
+use Prim.Native.Nat.{ℕ, _<_, min}
+use native.Mathlib.Omega.{arith}
+use lib.Dec.{eqb, ltb}
+use borrow.Author.Tests.{eqb-true, eq-eqb, not-true}
+use Rattle.lines.specs.Logic.{if_then_else_}
+use Rattle.lines.proofs.Laws.Logic.{by-test, by-eq, by-choice, never, and-right}
+use Rattle.scheduler.specs.declared.thread.Thread.{Thread}
+use Rattle.scheduler.specs.declared.thread.Place.{Place}
+use Rattle.scheduler.specs.declared.Scheduler.{Scheduler}
+use Rattle.scheduler.specs.Threads.{atRest, inState, placedb}
+use Rattle.scheduler.specs.Orders.{firstAt}
+use Rattle.scheduler.specs.Sound.{Steady}
+use Rattle.scheduler.proofs.Laws.States
+use Rattle.calls.specs.Held.{noWords}
+use Rattle.calls.specs.Statuses as Statuses
+use Rattle.calls.specs.Refusals
+use Rattle.calls.specs.declared.call.Call.{Call}
+use Rattle.calls.specs.declared.call.Call.the-variants.{ThreadCreate, ThreadDelete, ThreadResume, ThreadSuspend, ThreadTerminate, ThreadReset, ThreadFinish, ThreadRelinquish, ThreadSleep, ThreadWaitAbort, ThreadPriorityChange, ThreadPreemptionChange, TimeGet, TimeSet, Tick, SemaphoreCreate, SemaphoreDelete, SemaphoreGet, SemaphorePut, SemaphoreCeilingPut, SemaphorePrioritize, QueueCreate, QueueDelete, QueueSend, QueueFrontSend, QueueReceive, QueueFlush, QueuePrioritize, EventFlagsCreate, EventFlagsDelete, EventFlagsSet, EventFlagsGet, BlockPoolCreate, BlockPoolDelete, BlockAllocate, BlockRelease, BlockPoolPrioritize, ThreadStateRead, ThreadWordsRead}
+use Rattle.kernel.specs.declared.Kernel.{Kernel}
+use Rattle.kernel.specs.Tables.{threadOf, runnerOf, heldAt, semaphoreAt, queueAt, poolAt, given, withScheduler, withHeld, withQueue, withGroup, withClock}
+use Rattle.kernel.specs.Answers.{Outcome, refused, carried, guarded}
+use Rattle.kernel.specs.Waits.{endWait, startWait, ticked}
+use Rattle.kernel.specs.Threads as Threads
+use Rattle.kernel.specs.Clock as Clock
+use Rattle.kernel.specs.Semaphores as Semaphores
+use Rattle.kernel.specs.Queues as Queues
+use Rattle.kernel.specs.Groups as Groups
+use Rattle.kernel.specs.Pools as Pools
+use Rattle.kernel.specs.General.{service}
+use Rattle.kernel.specs.Sound.{Sound}
+use Rattle.kernel.proofs.Laws.Answers.{first-none, unless-none, is-carried}
+use Rattle.claims.specs.Lists.{Made}
+use Rattle.claims.specs.Rolls.{onb, givesb, takesb}
+use Rattle.claims.specs.Accounts.{deletesb}
+use Rattle.claims.proofs.Laws.Still
+use Rattle.claims.proofs.Laws.Quiet
+use Rattle.claims.proofs.Laws.Decoded.{Numbered}
+use Rattle.claims.proofs.Laws.Steps
+use Rattle.claims.proofs.Laws.Serving
+use Rattle.claims.proofs.Laws.Rolls
+use Rattle.claims.proofs.Laws.AccountsServed.{later, later-held, later-ended, later-terminated, later-ticked}
+use Rattle.claims.proofs.Laws.AccountsRecords.{Untouched, Same, same-self, same-semaphore, same-pool, untouched-each, untouched-ticked, kept-guarded, kept-carried, kept-either, untouched-carried}
+use Rattle.claims.proofs.Laws.AccountsSteps
+
+-- another scheduler changes nothing held
+scheduler-held : (k : Kernel) (s : Scheduler) (status : ℕ) (words ended : List ℕ) (u : ℕ) → heldAt (carried (withScheduler k s) status words ended .kernel) u ≡ heldAt k u
+unfolding carried withScheduler heldAt
+scheduler-held k s status words ended u = refl
+
+-- two places are one, or two
+by-place : {P : Type 0} (q p : Place) → (q ≡ p → P) → ((q ≡ p → ⊥) → P) → P
+by-place q p here away =
+    by-eq (q .state) (p .state)
+    (λ z. by-eq (q .number) (p .number)
+    (λ y. here (λ i. record { state = z i; number = y i }))
+    (λ y. away (λ w. y (ap (λ (r : Place). r .number) w))))
+    (λ z. away (λ w. z (ap (λ (r : Place). r .state) w)))
+
+module _ (p : Place) (waits : 4 < p .state) (k : Kernel) (S : Sound k) (m : Made) (queueless : p .state ≡ 5 → ⊥) (flagless : p .state ≡ 7 → ⊥)
+    (made6 : p .state ≡ 6 → semaphoreAt k (p .number) .created ≡ true) (made8 : p .state ≡ 8 → poolAt k (p .number) .created ≡ true) where
+  abbrev T : Steady (k .scheduler)
+  T = S .scheduler .steady
+
+  abbrev E : Outcome → Type 0
+  E = AccountsSteps.E p waits k S m
+
+  -- a call that counts for nothing
+  plain-effect : (o : Outcome) → later p k (o .kernel) ≡ 0 → Same p k (o .kernel) → AccountsSteps.plainb (m .number) ≡ true → E o
+  plain-effect o l r q =
+      AccountsSteps.unmoved (AccountsSteps.none-given p m (o .status) (AccountsSteps.gives-plain p m queueless q)) (AccountsSteps.none-taken p m (o .status) (AccountsSteps.takes-plain p m queueless q)) l r
+
+  -- and leaves the line still
+  quiet-effect : (o : Outcome) → Still.Still p k (o .kernel) → Same p k (o .kernel) → AccountsSteps.plainb (m .number) ≡ true → E o
+  quiet-effect o a = plain-effect o (later-held p waits k S (o .kernel) (a .held))
+
+  -- ---- records
+  abbrev alike : Untouched k k
+  alike = record { semaphores = refl; pools = refl }
+
+  call-kept : (reason : ℕ) (x : Kernel) (status : ℕ) (words ended : List ℕ) → Untouched k x → Same p k (guarded k reason (carried x status words ended) .kernel)
+  call-kept reason x status words ended u = kept-guarded p k reason _ (λ e. untouched-carried p k x status words ended u)
+
+  -- a call that is carried out, counts for nothing and changes no record
+  plain-carried : (x : Kernel) (status : ℕ) (words ended : List ℕ) → later p k (carried x status words ended .kernel) ≡ 0 → Untouched k x → AccountsSteps.plainb (m .number) ≡ true → E (carried x status words ended)
+  plain-carried x status words ended l u = plain-effect (carried x status words ended) l (untouched-carried p k x status words ended u)
+
+  -- ---- the other objects
+  no-queue : (n : ℕ) → Queues.queuePlace n ≡ p → ⊥
+  no-queue n z = queueless (sym (ap (λ (q : Place). q .state) z))
+
+  no-group : (n : ℕ) → Groups.groupPlace n ≡ p → ⊥
+  no-group n z = flagless (sym (ap (λ (q : Place). q .state) z))
+
+  -- ---- calls 5, 10, 15
+  rested : (th : Thread) → placedb p (atRest 2 th) ≡ false
+  unfolding inState
+  rested th = Still.other-state p (atRest 2 th) (λ z. omega (arith, z, waits))
+
+  terminate-effect : (caller t : ℕ) → m .number ≡ 5 → E (Threads.threadTerminate k caller t)
+  unfolding Threads.threadTerminate Refusals.terminateRefusal given withHeld withScheduler inState
+  terminate-effect caller t n =
+      AccountsSteps.guarded-effect p waits k S m _ _
+      (λ w. let made = unless-none (threadOf k t .created) Statuses.threadError (omega arith) (first-none _ _ w) in
+      let small = States.created-small (k .scheduler) T t made in
+      by-choice E (Refusals.finishedb (threadOf k t)) _ _
+      (λ f. plain-carried k _ _ _ (later-held p waits k S _ (Still.still-carried p k T k _ _ _ (Still.still-same p k T) .held)) alike (ap AccountsSteps.plainb n))
+      (λ f. plain-carried _ _ _ _ (later-terminated p waits k S t made (atRest 2 (threadOf k t)) (States.fit-at-rest 2 (threadOf k t) made (T .fit t small) (omega arith)) (rested (threadOf k t)) refl _ _ _)
+      (record { semaphores = refl; pools = refl }) (ap AccountsSteps.plainb n)))
+
+  abort-effect : (t : ℕ) → m .number ≡ 10 → E (Threads.threadWaitAbort k t)
+  unfolding Threads.threadWaitAbort Refusals.abortRefusal endWait withHeld withScheduler
+  abort-effect t n =
+      AccountsSteps.guarded-effect p waits k S m _ _
+      (λ w. let made = unless-none (threadOf k t .created) Statuses.threadError (omega arith) (first-none _ _ w) in
+      plain-carried _ _ _ _ (later-ended p waits k S t made Statuses.waitAborted noWords _ _ _ (λ z. omega (arith, z))) (record { semaphores = refl; pools = refl }) (ap AccountsSteps.plainb n))
+
+  tick-effect : (caller : ℕ) → m .number ≡ 15 → E (Clock.tick k caller)
+  unfolding Clock.tick
+  tick-effect caller n = AccountsSteps.guarded-effect p waits k S m _ _ (λ w. plain-carried _ _ _ _ (later-ticked p waits k S _ _ _) (untouched-ticked k) (ap AccountsSteps.plainb n))
+
+  -- ---- prioritise, here or elsewhere
+  prioritise-effect : (reason : ℕ) (s : Scheduler) (status : ℕ) (words ended : List ℕ) → AccountsSteps.plainb (m .number) ≡ true → E (guarded k reason (carried (withScheduler k s) status words ended))
+  unfolding withScheduler
+  prioritise-effect reason s status words ended q =
+      AccountsSteps.guarded-effect p waits k S m reason _ (λ w. plain-carried (withScheduler k s) status words ended (later-held p waits k S _ (λ u c. scheduler-held k s status words ended u)) (record { semaphores = refl; pools = refl }) q)
+
+  -- ---- delete: not here, or refused
+  delete-effect : (q : Place) (reason : ℕ) (o : Outcome) → o .status ≡ 0 → (q ≡ p → deletesb p m ≡ true) → ((q ≡ p → ⊥) → E (guarded k reason o)) → (deletesb p m ≡ true → guarded k reason o .status ≡ 0 → ⊥) → E (guarded k reason o)
+  delete-effect q reason o s here away calm =
+      by-place q p (λ z. AccountsSteps.guarded-effect p waits k S m reason o (λ w. absurd (calm (here z) (ap (λ (y : Outcome). y .status) (is-carried k reason o w) ∙ s)))) away
+
+  -- ---- semaphores
+  module _ (s : ℕ) (i : s ≡ min (m .a) 16) where
+    abbrev sp : Place
+    sp = Semaphores.semaphorePlace s
+
+    module _ (z : sp ≡ p) where
+      state6 : p .state ≡ 6
+      state6 = sym (ap (λ (q : Place). q .state) z)
+
+      number6 : s ≡ p .number
+      number6 = ap (λ (q : Place). q .number) z
+
+      low6 : s < 16
+      low6 = let l = Rolls.semaphore-small k S (p .number) (made6 state6) in let e = number6 in omega (arith, l, e)
+
+      on6 : m .a ≡ s
+      on6 = let l = low6 in omega (arith, l, i)
+
+      deletes-semaphore : m .number ≡ 17 → deletesb p m ≡ true
+      unfolding deletesb onb
+      deletes-semaphore n = rw (n, eq-eqb (m .a) (p .number) (on6 ∙ number6), state6) refl
+
+    -- elsewhere
+    module _ (away : sp ≡ p → ⊥) where
+      not-on6 : p .state ≡ 6 → m .a ≡ p .number → ⊥
+      not-on6 z a = let l = Rolls.semaphore-small k S (p .number) (made6 z) in let e : s ≡ p .number = omega (arith, l, a, i) in away (λ j. record { state = sym z j; number = e j })
+
+      gives-away6 : m .number < 22 → givesb p m ≡ false
+      gives-away6 l =
+          by-test (givesb p m)
+          (λ g. Serving.gives-by p m g (λ z n. absurd (not-on6 z (Steps.gives-on p m g))) (λ z n. absurd (not-on6 z (Steps.gives-on p m g))) (λ z n. absurd (queueless z)) (λ z n. absurd (queueless z)) (λ z n. absurd (omega (arith, n, l))))
+          (λ g. g)
+
+      takes-away6 : m .number < 22 → takesb p m ≡ false
+      takes-away6 l =
+          by-test (takesb p m)
+          (λ g. Serving.takes-by p m g (λ z n. absurd (not-on6 z (Serving.takes-on p m g))) (λ z n. absurd (queueless z)) (λ z n. absurd (omega (arith, n, l))))
+          (λ g. g)
+
+      away-effect6 : (o : Outcome) → Still.Still p k (o .kernel) → Same p k (o .kernel) → m .number < 22 → E o
+      away-effect6 o a r l = AccountsSteps.still-effect p waits k S m o a r (gives-away6 l) (takes-away6 l)
+
+      get-kept : (caller wait : ℕ) → Same p k (Semaphores.semaphoreGet k caller s wait .kernel)
+      unfolding Semaphores.semaphoreGet startWait withHeld withScheduler
+      get-kept caller wait =
+          kept-guarded p k _ _ (λ e. kept-either p k (ltb 0 (semaphoreAt k s .count)) _ _ (kept-carried p k _ _ _ _ (same-semaphore p k k s _ away alike)) (untouched-carried p k _ _ _ _ (record { semaphores = refl; pools = refl })))
+
+      put-kept : (reason : ℕ) → Same p k (guarded k reason (Semaphores.putOn k s) .kernel)
+      unfolding Semaphores.putOn endWait withHeld withScheduler
+      put-kept reason =
+          kept-guarded p k _ _ (λ e. kept-either p k (ltb (firstAt (k .scheduler) sp) 32) _ _ (untouched-carried p k _ _ _ _ (record { semaphores = refl; pools = refl })) (kept-carried p k _ _ _ _ (same-semaphore p k k s _ away alike)))
+
+      delete-kept : (caller : ℕ) → Same p k (Semaphores.semaphoreDelete k caller s .kernel)
+      unfolding Semaphores.semaphoreDelete
+      delete-kept caller = kept-guarded p k _ _ (λ e. kept-carried p k _ _ _ _ (same-semaphore p k _ s _ away (untouched-each k _ _ _)))
+
+    -- a semaphore that is created is not created again
+    create-kept : (caller count : ℕ) → Same p k (Semaphores.semaphoreCreate k caller s count .kernel)
+    unfolding Semaphores.semaphoreCreate Refusals.semaphoreCreateRefusal
+    create-kept caller count =
+        kept-guarded p k _ _
+        (λ e. let new = not-true (semaphoreAt k s .created) (and-right (ltb s 16) _ (unless-none (ltb s 16 && not (semaphoreAt k s .created)) Statuses.semaphoreError (omega arith) (first-none _ _ e))) in
+        kept-carried p k _ _ _ _ (same-semaphore p k k s _ (λ z. never (ap (λ (n : ℕ). semaphoreAt k n .created) (number6 z) ∙ made6 (state6 z)) new) alike))
+
+    -- the calls
+    get-any : m .number ≡ 18 → (caller : ℕ) → (eqb caller 2 ≡ true → runnerOf k < 32) → (wait : ℕ) → E (Semaphores.semaphoreGet k caller s wait)
+    get-any n caller runs wait =
+        by-place sp p
+        (λ z. subst (λ (q : Place). AccountsSteps.Effect q k m (Semaphores.semaphoreGet k caller s wait .status) (Semaphores.semaphoreGet k caller s wait .kernel)) z (AccountsSteps.get-effect k S m s (low6 z) (on6 z) n caller runs wait))
+        (λ away. away-effect6 away (Semaphores.semaphoreGet k caller s wait) (Quiet.semaphore-get-quiet p waits k S s caller runs wait) (get-kept away caller wait) (omega (arith, n)))
+
+    put-any : (reason : ℕ) → (eqb (m .number) 19 || eqb (m .number) 20) ≡ true → AccountsSteps.takelessb (m .number) ≡ true → m .number < 22 → ((sp ≡ p → ⊥) → Still.Still p k (guarded k reason (Semaphores.putOn k s) .kernel)) → E (guarded k reason (Semaphores.putOn k s))
+    put-any reason t l few still =
+        by-place sp p
+        (λ z. AccountsSteps.guarded-effect p waits k S m reason (Semaphores.putOn k s)
+        (λ w. subst (λ (q : Place). AccountsSteps.Effect q k m (Semaphores.putOn k s .status) (Semaphores.putOn k s .kernel)) z (AccountsSteps.put-effect k S m s (low6 z) (on6 z) t l)))
+        (λ away. away-effect6 away (guarded k reason (Semaphores.putOn k s)) (still away) (put-kept away reason) few)
+
+  -- ---- pools
+  module _ (l : ℕ) (i : l ≡ min (m .a) 4) where
+    abbrev lp : Place
+    lp = Pools.poolPlace l
+
+    module _ (z : lp ≡ p) where
+      state8 : p .state ≡ 8
+      state8 = sym (ap (λ (q : Place). q .state) z)
+
+      number8 : l ≡ p .number
+      number8 = ap (λ (q : Place). q .number) z
+
+      low8 : l < 4
+      low8 = let s = Rolls.pool-small k S (p .number) (made8 state8) in let e = number8 in omega (arith, s, e)
+
+      on8 : m .a ≡ l
+      on8 = let s = low8 in omega (arith, s, i)
+
+      deletes-pool : m .number ≡ 34 → deletesb p m ≡ true
+      unfolding deletesb onb
+      deletes-pool n = rw (n, eq-eqb (m .a) (p .number) (on8 ∙ number8), state8) refl
+
+    -- elsewhere
+    module _ (away : lp ≡ p → ⊥) where
+      not-on8 : p .state ≡ 8 → m .a ≡ p .number → ⊥
+      not-on8 z a = let s = Rolls.pool-small k S (p .number) (made8 z) in let e : l ≡ p .number = omega (arith, s, a, i) in away (λ j. record { state = sym z j; number = e j })
+
+      gives-away8 : 32 < m .number → givesb p m ≡ false
+      gives-away8 h =
+          by-test (givesb p m)
+          (λ g. Serving.gives-by p m g (λ z n. absurd (omega (arith, n, h))) (λ z n. absurd (omega (arith, n, h))) (λ z n. absurd (queueless z)) (λ z n. absurd (queueless z)) (λ z n. absurd (not-on8 z (Steps.gives-on p m g))))
+          (λ g. g)
+
+      takes-away8 : 32 < m .number → takesb p m ≡ false
+      takes-away8 h =
+          by-test (takesb p m)
+          (λ g. Serving.takes-by p m g (λ z n. absurd (omega (arith, n, h))) (λ z n. absurd (queueless z)) (λ z n. absurd (not-on8 z (Serving.takes-on p m g))))
+          (λ g. g)
+
+      away-effect8 : (o : Outcome) → Still.Still p k (o .kernel) → Same p k (o .kernel) → 32 < m .number → E o
+      away-effect8 o a r h = AccountsSteps.still-effect p waits k S m o a r (gives-away8 h) (takes-away8 h)
+
+      allocate-kept : (caller wait : ℕ) → Same p k (Pools.blockAllocate k caller l wait .kernel)
+      unfolding Pools.blockAllocate startWait withHeld withScheduler
+      allocate-kept caller wait =
+          kept-guarded p k _ _ (λ e. kept-either p k (ltb 0 (poolAt k l .free)) _ _ (kept-carried p k _ _ _ _ (same-pool p k k l _ away alike)) (untouched-carried p k _ _ _ _ (record { semaphores = refl; pools = refl })))
+
+      release-kept : (block : ℕ) → Same p k (Pools.blockRelease k l block .kernel)
+      unfolding Pools.blockRelease endWait withHeld withScheduler
+      release-kept block =
+          kept-guarded p k _ _ (λ e. kept-either p k (ltb (firstAt (k .scheduler) lp) 32) _ _ (untouched-carried p k _ _ _ _ (record { semaphores = refl; pools = refl })) (kept-carried p k _ _ _ _ (same-pool p k k l _ away alike)))
+
+      pool-delete-kept : (caller : ℕ) → Same p k (Pools.poolDelete k caller l .kernel)
+      unfolding Pools.poolDelete
+      pool-delete-kept caller = kept-guarded p k _ _ (λ e. kept-carried p k _ _ _ _ (same-pool p k _ l _ away (untouched-each k _ _ _)))
+
+    -- a pool that is created is not created again
+    pool-create-kept : (caller block total : ℕ) → Same p k (Pools.poolCreate k caller l block total .kernel)
+    unfolding Pools.poolCreate Refusals.poolCreateRefusal
+    pool-create-kept caller block total =
+        kept-guarded p k _ _
+        (λ e. let new = not-true (poolAt k l .created) (and-right (ltb l 4) _ (unless-none (ltb l 4 && not (poolAt k l .created)) Statuses.poolError (omega arith) (first-none _ _ e))) in
+        kept-carried p k _ _ _ _ (same-pool p k k l _ (λ z. never (ap (λ (n : ℕ). poolAt k n .created) (number8 z) ∙ made8 (state8 z)) new) alike))
+
+    -- the calls
+    allocate-any : m .number ≡ 35 → (caller : ℕ) → (eqb caller 2 ≡ true → runnerOf k < 32) → (wait : ℕ) → E (Pools.blockAllocate k caller l wait)
+    allocate-any n caller runs wait =
+        by-place lp p
+        (λ z. subst (λ (q : Place). AccountsSteps.Effect q k m (Pools.blockAllocate k caller l wait .status) (Pools.blockAllocate k caller l wait .kernel)) z (AccountsSteps.allocate-effect k S m l (low8 z) (on8 z) n caller runs wait))
+        (λ away. away-effect8 away (Pools.blockAllocate k caller l wait) (Quiet.allocate-quiet p waits k S l caller runs wait) (allocate-kept away caller wait) (omega (arith, n)))
+
+    release-any : m .number ≡ 36 → (block : ℕ) → E (Pools.blockRelease k l block)
+    release-any n block =
+        by-place lp p
+        (λ z. subst (λ (q : Place). AccountsSteps.Effect q k m (Pools.blockRelease k l block .status) (Pools.blockRelease k l block .kernel)) z (AccountsSteps.release-effect k S m l (low8 z) (on8 z) n block))
+        (λ away. away-effect8 away (Pools.blockRelease k l block) (Quiet.release-quiet p waits k S l away block) (release-kept away block) (omega (arith, n)))
