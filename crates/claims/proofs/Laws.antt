@@ -13,3 +13,4 @@ pub mod AccountsServed
 pub mod AccountsRecords
 pub mod AccountsSteps
 pub mod AccountsServices
+pub mod Accounts

@@ -1,0 +1,165 @@
+-- Accounts from history, over every list of calls.
+use mathlib.Core.Path.{_≡_, refl, sym, ap, _∙_, subst}
+use mathlib.Core.List.{List, [], _∷_}
+use mathlib.Core.Bool.{Bool, true, false, _&&_, not}
+use Prim.Native.Nat.{ℕ, _+_, _-_, _%_, _<_, _≤_}
+use native.Mathlib.Omega.{arith}
+use lib.ListN.{length}
+use lib.Dec.{eqb, ltb}
+use borrow.Author.Tests.{eq-eqb}
+use Rattle.lines.specs.Logic.{if_then_else_}
+use Rattle.lines.proofs.Laws.Logic.{by-choice, never, and-in}
+use Rattle.scheduler.specs.declared.thread.Place.{Place}
+use Rattle.objects.specs.declared.semaphore.Semaphore.{Semaphore}
+use Rattle.objects.specs.declared.pool.Pool.{Pool}
+use Rattle.objects.specs.Pools.{blocksOf, poolFitb, withoutNext, withFree}
+use Rattle.objects.proofs.Laws.Pools as Records
+use Rattle.calls.specs.declared.call.Decoded.{Decoded}
+use Rattle.calls.specs.declared.call.Decoded.the-variants.{Known, Unknown}
+use Rattle.calls.specs.Calls.{decoded}
+use Rattle.calls.specs.Statuses as Statuses
+use Rattle.kernel.specs.declared.Kernel.{Kernel}
+use Rattle.kernel.specs.declared.Answer.{Answer}
+use Rattle.kernel.specs.Tables.{runnerOf, semaphoreAt, poolAt}
+use Rattle.kernel.specs.Answers.{Outcome, refused, answerOf}
+use Rattle.kernel.specs.General as General
+use Rattle.kernel.specs.Semaphores.{semaphorePlace, counting}
+use Rattle.kernel.specs.Pools.{poolPlace}
+use Rattle.kernel.specs.Waits.{oneMore}
+use Rattle.kernel.specs.Sound.{Sound}
+use Rattle.kernel.proofs.Laws.Claims.{runner-there}
+use Rattle.claims.specs.Lists.{Made, answer, next, after}
+use Rattle.claims.specs.Rolls.{doneb, gave}
+use Rattle.claims.specs.Accounts.{servedb, servedLater, served, deletesb, Undeleted, SemaphoreAccount, PoolAccount, Accounts}
+use Rattle.claims.proofs.Laws.Decoded.{Is, decoded-is}
+use Rattle.claims.proofs.Laws.Rolls
+use Rattle.claims.proofs.Laws.AccountsServed.{later}
+use Rattle.claims.proofs.Laws.AccountsRecords.{Same}
+use Rattle.claims.proofs.Laws.AccountsSteps.{Effect, unmoved, taken, handed, given, gives, takes, refused-effect}
+use Rattle.claims.proofs.Laws.AccountsServices.{service-effect}
+
+-- ---- one call
+module _ (p : Place) (waits : 4 < p .state) (queueless : p .state ≡ 5 → ⊥) (flagless : p .state ≡ 7 → ⊥) (k : Kernel) (S : Sound k) (m : Made)
+    (made6 : p .state ≡ 6 → semaphoreAt k (p .number) .created ≡ true) (made8 : p .state ≡ 8 → poolAt k (p .number) .created ≡ true) where
+  abbrev E : Outcome → Type 0
+  E o = Effect p k m (o .status) (o .kernel)
+
+  record-effect : (caller : ℕ) (d : Decoded) (messages : List ℕ) → Is (m .number) (m .a) d → (deletesb p m ≡ true → General.byRecord k caller d messages .status ≡ 0 → ⊥) → E (General.byRecord k caller d messages)
+  unfolding General.byRecord General.byCaller
+  record-effect caller (Known call) messages i calm =
+      by-choice E (eqb caller 2 && not (ltb (runnerOf k) 32)) (refused k Statuses.nobodyRuns) (General.service k caller call messages)
+      (λ z. refused-effect p waits k S m Statuses.nobodyRuns refl)
+      (λ z. service-effect p waits k S m queueless flagless made6 made8 caller (runner-there k caller z) call messages i
+      (λ u w. calm u (ap (λ (b : Bool). (if b then refused k Statuses.nobodyRuns else General.service k caller call messages) .status) z ∙ w)))
+  record-effect caller Unknown messages i calm = refused-effect p waits k S m Statuses.unknownCall refl
+
+  next-effect : (deletesb p m && doneb (answer k m)) ≡ false → Effect p k m (answer k m .status) (next k m)
+  unfolding next General.step doneb answerOf
+  next-effect calm =
+      subst (λ (x : Answer). Effect p k m (x .status) (x .kernel)) (sym (Rolls.answer-is k S m))
+      (record-effect (m .caller) (decoded (m .number) (m .caller) (m .a) (m .b) (m .c) (m .d)) (m .messages) (decoded-is (m .number) (m .caller) (m .a) (m .b) (m .c) (m .d))
+      (λ u w. never (and-in (deletesb p m) (doneb (answer k m)) u (ap doneb (Rolls.answer-is k S m) ∙ eq-eqb (Rolls.stepped k m .status) 0 w)) calm))
+
+-- ---- semaphores
+-- what one call makes of a count
+record Counted (n : ℕ) (k : Kernel) (m : Made) (status : ℕ) (x : Kernel) : Type 0 where
+  created : semaphoreAt x n .created ≡ true
+  enough : takes (semaphorePlace n) m status + later (semaphorePlace n) k x ≤ semaphoreAt k n .count + gives (semaphorePlace n) m status
+  count : semaphoreAt x n .count ≡ (semaphoreAt k n .count + gives (semaphorePlace n) m status - (takes (semaphorePlace n) m status + later (semaphorePlace n) k x)) % 4294967296
+
+module _ (n : ℕ) (k : Kernel) (m : Made) (status : ℕ) (x : Kernel) (made : semaphoreAt k n .created ≡ true) (low : semaphoreAt k n .count < 4294967296) where
+  counted : Effect (semaphorePlace n) k m status x → Counted n k m status x
+  unfolding counting oneMore
+  counted (unmoved g t l r) =
+      let e = r .semaphore refl in
+      let c = ap (λ (y : Semaphore). y .count) e in
+      record { created = ap (λ (y : Semaphore). y .created) e ∙ made; enough = omega (arith, g, t, l); count = omega (arith, g, t, l, c, low) }
+  counted (taken g t l r) =
+      let some = r .semaphore refl .0 in
+      let e = r .semaphore refl .1 in
+      let c = ap (λ (y : Semaphore). y .count) e in
+      record { created = ap (λ (y : Semaphore). y .created) e; enough = omega (arith, g, t, l, some); count = omega (arith, g, t, l, c, low, some) }
+  counted (handed g t l r) =
+      let e = r .semaphore refl in
+      let c = ap (λ (y : Semaphore). y .count) e in
+      record { created = ap (λ (y : Semaphore). y .created) e ∙ made; enough = omega (arith, g, t, l); count = omega (arith, g, t, l, c, low) }
+  counted (given g t l r) =
+      let e = r .semaphore refl in
+      let c = ap (λ (y : Semaphore). y .count) e in
+      record { created = ap (λ (y : Semaphore). y .created) e; enough = omega (arith, g, t, l); count = omega (arith, g, t, l, c, low) }
+
+semaphore-from : (n : ℕ) (ms : List Made) (k : Kernel) → Sound k → semaphoreAt k n .created ≡ true → semaphoreAt k n .count < 4294967296 → Undeleted (semaphorePlace n) k ms → SemaphoreAccount n (semaphoreAt k n .count) k ms
+unfolding served servedLater gave after doneb next
+semaphore-from n [] k S made low u = record { enough = omega arith; count = omega (arith, low) }
+semaphore-from n (m ∷ ms) k S made low u =
+    let one = counted n k m (answer k m .status) (next k m) made low (next-effect (semaphorePlace n) (omega arith) (λ z. omega (arith, z)) (λ z. omega (arith, z)) k S m (λ z. made) (λ z. absurd (omega (arith, z))) (u .0)) in
+    let few = one .enough in
+    let now = one .count in
+    let more = semaphore-from n ms (next k m) (Rolls.next-sound k S m) (one .created) (omega (arith, now)) (u .1) in
+    let enough = more .enough in
+    let last = more .count in
+    record { enough = omega (arith, few, now, enough); count = omega (arith, few, now, enough, last) }
+
+-- ---- pools
+-- what one call makes of the free blocks
+record Booked (n : ℕ) (k : Kernel) (m : Made) (status : ℕ) (x : Kernel) : Type 0 where
+  created : poolAt x n .created ≡ true
+  slots : length (poolAt x n .list) ≡ 64
+  total : blocksOf (poolAt x n) ≡ blocksOf (poolAt k n)
+  enough : takes (poolPlace n) m status + later (poolPlace n) k x ≤ poolAt k n .free + gives (poolPlace n) m status
+  free : poolAt x n .free ≡ poolAt k n .free + gives (poolPlace n) m status - (takes (poolPlace n) m status + later (poolPlace n) k x)
+
+-- a created pool's record is fit
+pool-fit : (n : ℕ) (k : Kernel) → Sound k → poolAt k n .created ≡ true → poolFitb (poolAt k n) ≡ true
+pool-fit n k S made = S .pools n (Rolls.pool-small k S n made)
+
+module _ (n : ℕ) (k : Kernel) (S : Sound k) (m : Made) (status : ℕ) (x : Kernel) (made : poolAt k n .created ≡ true) (slots : length (poolAt k n .list) ≡ 64) where
+  -- the same record
+  kept : Same (poolPlace n) k x → takes (poolPlace n) m status + later (poolPlace n) k x ≡ gives (poolPlace n) m status → Booked n k m status x
+  kept r even =
+      let e = r .pool refl in
+      let f = ap (λ (y : Pool). y .free) e in
+      record {
+        created = ap (λ (y : Pool). y .created) e ∙ made;
+        slots = ap (λ (y : Pool). length (y .list)) e ∙ slots;
+        total = ap blocksOf e;
+        enough = omega (arith, even);
+        free = omega (arith, even, f);
+      }
+
+  -- a record with other free blocks
+  changed : (y : Pool) → poolAt x n ≡ y → Records.Alike y (poolAt k n) → length (y .list) ≡ 64 → takes (poolPlace n) m status + later (poolPlace n) k x ≤ poolAt k n .free + gives (poolPlace n) m status
+      → y .free ≡ poolAt k n .free + gives (poolPlace n) m status - (takes (poolPlace n) m status + later (poolPlace n) k x) → Booked n k m status x
+  changed y e a l enough f =
+      record {
+        created = ap (λ (z : Pool). z .created) e ∙ a .0 ∙ made;
+        slots = ap (λ (z : Pool). length (z .list)) e ∙ l;
+        total = ap blocksOf e ∙ Records.alike-blocks y (poolAt k n) a;
+        enough = enough;
+        free = ap (λ (z : Pool). z .free) e ∙ f;
+      }
+
+  booked : Effect (poolPlace n) k m status x → Booked n k m status x
+  unfolding withoutNext withFree
+  booked (unmoved g t l r) = kept r (omega (arith, g, t, l))
+  booked (taken g t l r) =
+      let some = r .pool refl .0 in
+      let f = Records.without-free (poolAt k n) (pool-fit n k S made) made slots in
+      changed (withoutNext (poolAt k n)) (r .pool refl .1) (Records.without-alike (poolAt k n)) (Records.listing-slots (poolAt k n) _) (omega (arith, g, t, l, some)) (omega (arith, g, t, l, f))
+  booked (handed g t l r) = kept r (omega (arith, g, t, l))
+  booked (given g t l r) =
+      let b = r .pool refl .0 in
+      let f = Records.with-free (poolAt k n) (pool-fit n k S made) made slots b (r .pool refl .1) in
+      changed (withFree (poolAt k n) b) (r .pool refl .2) (Records.with-alike (poolAt k n) b) (Records.listing-slots (poolAt k n) _) (omega (arith, g, t, l)) (omega (arith, g, t, l, f))
+
+pool-from : (n : ℕ) (ms : List Made) (k : Kernel) → Sound k → poolAt k n .created ≡ true → length (poolAt k n .list) ≡ 64 → Undeleted (poolPlace n) k ms → PoolAccount n (poolAt k n .free) k ms
+unfolding served servedLater gave after doneb next
+pool-from n [] k S made slots u = record { enough = omega arith; free = omega arith; listed = Records.fit-length (poolAt k n) (pool-fit n k S made) made slots; total = refl }
+pool-from n (m ∷ ms) k S made slots u =
+    let one = booked n k S m (answer k m .status) (next k m) made slots (next-effect (poolPlace n) (omega arith) (λ z. omega (arith, z)) (λ z. omega (arith, z)) k S m (λ z. absurd (omega (arith, z))) (λ z. made) (u .0)) in
+    let few = one .enough in
+    let now = one .free in
+    let more = pool-from n ms (next k m) (Rolls.next-sound k S m) (one .created) (one .slots) (u .1) in
+    let enough = more .enough in
+    let last = more .free in
+    record { enough = omega (arith, few, now, enough); free = omega (arith, few, now, enough, last); listed = more .listed; total = more .total ∙ one .total }
