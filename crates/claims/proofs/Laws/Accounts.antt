@@ -2,13 +2,13 @@
 use mathlib.Core.Path.{_≡_, refl, sym, ap, _∙_, subst}
 use mathlib.Core.List.{List, [], _∷_}
 use mathlib.Core.Bool.{Bool, true, false, _&&_, not}
-use Prim.Native.Nat.{ℕ, _+_, _-_, _%_, _<_, _≤_}
+use Prim.Native.Nat.{ℕ, _+_, _-_, _%_, _<_, _≤_, min}
 use native.Mathlib.Omega.{arith}
 use lib.ListN.{length}
 use lib.Dec.{eqb, ltb}
-use borrow.Author.Tests.{eq-eqb}
+use borrow.Author.Tests.{eq-eqb, ltb-true}
 use Rattle.lines.specs.Logic.{if_then_else_}
-use Rattle.lines.proofs.Laws.Logic.{by-choice, never, and-in}
+use Rattle.lines.proofs.Laws.Logic.{by-choice, never, and-left, and-in}
 use Rattle.scheduler.specs.declared.thread.Place.{Place}
 use Rattle.objects.specs.declared.semaphore.Semaphore.{Semaphore}
 use Rattle.objects.specs.declared.pool.Pool.{Pool}
@@ -16,25 +16,29 @@ use Rattle.objects.specs.Pools.{blocksOf, poolFitb, withoutNext, withFree}
 use Rattle.objects.proofs.Laws.Pools as Records
 use Rattle.calls.specs.declared.call.Decoded.{Decoded}
 use Rattle.calls.specs.declared.call.Decoded.the-variants.{Known, Unknown}
-use Rattle.calls.specs.Calls.{decoded}
+use Rattle.calls.specs.declared.call.Call.the-variants.{SemaphoreCreate, BlockPoolCreate}
+use Rattle.calls.specs.Calls.{decoded, knownCall, semaphoreNumber, poolNumber}
+use Rattle.calls.specs.Refusals
 use Rattle.calls.specs.Statuses as Statuses
 use Rattle.kernel.specs.declared.Kernel.{Kernel}
 use Rattle.kernel.specs.declared.Answer.{Answer}
-use Rattle.kernel.specs.Tables.{runnerOf, semaphoreAt, poolAt}
-use Rattle.kernel.specs.Answers.{Outcome, refused, answerOf}
+use Rattle.kernel.specs.Tables.{runnerOf, semaphoreAt, poolAt, withScheduler, withSemaphore, withPool}
+use Rattle.kernel.specs.Answers.{Outcome, refused, carried, guarded, answerOf}
 use Rattle.kernel.specs.General as General
-use Rattle.kernel.specs.Semaphores.{semaphorePlace, counting}
+use Rattle.kernel.specs.Semaphores.{semaphorePlace, counting, semaphoreCreate}
 use Rattle.kernel.specs.Pools.{poolPlace}
 use Rattle.kernel.specs.Waits.{oneMore}
 use Rattle.kernel.specs.Sound.{Sound}
 use Rattle.kernel.proofs.Laws.Claims.{runner-there}
+use Rattle.kernel.proofs.Laws.Answers.{first-none, second-none, unless-none}
 use Rattle.claims.specs.Lists.{Made, answer, next, after}
 use Rattle.claims.specs.Rolls.{doneb, gave}
 use Rattle.claims.specs.Accounts.{servedb, servedLater, served, deletesb, Undeleted, SemaphoreAccount, PoolAccount, Accounts}
 use Rattle.claims.proofs.Laws.Decoded.{Is, decoded-is}
+use Rattle.claims.proofs.Laws.Serving
 use Rattle.claims.proofs.Laws.Rolls
 use Rattle.claims.proofs.Laws.AccountsServed.{later}
-use Rattle.claims.proofs.Laws.AccountsRecords.{Same}
+use Rattle.claims.proofs.Laws.AccountsRecords.{Same, semaphore-stored, pool-stored}
 use Rattle.claims.proofs.Laws.AccountsSteps.{Effect, unmoved, taken, handed, given, gives, takes, refused-effect}
 use Rattle.claims.proofs.Laws.AccountsServices.{service-effect}
 
@@ -163,3 +167,22 @@ pool-from n (m ∷ ms) k S made slots u =
     let enough = more .enough in
     let last = more .free in
     record { enough = omega (arith, few, now, enough); free = omega (arith, few, now, enough, last); listed = more .listed; total = more .total ∙ one .total }
+
+-- ---- since creation
+module _ (k : Kernel) (S : Sound k) (caller a b c d : ℕ) (messages : List ℕ) where
+  -- where call 16 is done, the semaphore has its start
+  abbrev Started : Outcome → Type 0
+  Started o = eqb (o .status) 0 ≡ true → semaphoreAt (o .kernel) a ≡ counting b
+
+  unstarted : (s : ℕ) → eqb s 0 ≡ false → Started (refused k s)
+  unfolding refused
+  unstarted s z w = never w z
+
+  semaphore-started : Started (General.step k 16 caller a b c d messages)
+  unfolding General.step General.service decoded knownCall semaphoreCreate Refusals.semaphoreCreateRefusal carried withScheduler semaphoreAt
+  semaphore-started =
+      Serving.known-by k Started unstarted caller (SemaphoreCreate (semaphoreNumber a) b) messages
+      (Serving.guarded-by k Started unstarted _ _
+      (λ e w. let one = unless-none (ltb (min a 16) 16 && not (semaphoreAt k (min a 16) .created)) Statuses.semaphoreError (omega arith) (first-none _ _ e) in
+      let low = ltb-true (min a 16) 16 (and-left (ltb (min a 16) 16) _ one) in
+      ap (λ (j : ℕ). semaphoreAt (withSemaphore k j (counting b)) a) (let q : min a 16 ≡ a = omega (arith, low) in q) ∙ semaphore-stored k S a (counting b) (omega (arith, low))))

@@ -114,13 +114,11 @@ module _ (p : Place) (waits : 4 < p .state) (k : Kernel) (S : Sound k) (m : Made
   refused-effect reason z = unmoved (undone p m reason z .0) (undone p m reason z .1) (later-held p waits k S k (λ u c. refl)) (same-self p k)
 
   pub guarded-effect : (reason : ℕ) (o : Outcome) → (reason ≡ 0 → E o) → E (guarded k reason o)
-  unfolding guarded
-  guarded-effect reason o f = by-choice E (eqb reason 0) o (refused k reason) (λ z. f (eqb-true reason 0 z)) (λ z. refused-effect reason z)
+  guarded-effect = Serving.guarded-by k E refused-effect
 
   -- a call that leaves the line still, whatever becomes of it
   guarded-still : (reason : ℕ) (o : Outcome) → (Still.Still p k (o .kernel) → E o) → Still.Still p k (guarded k reason o .kernel) → E (guarded k reason o)
-  unfolding guarded
-  guarded-still reason o f = by-choice (λ (q : Outcome). Still.Still p k (q .kernel) → E q) (eqb reason 0) o (refused k reason) (λ z. f) (λ z a. refused-effect reason z)
+  guarded-still reason o f = Serving.guarded-by k (λ q. Still.Still p k (q .kernel) → E q) (λ r z a. refused-effect r z) reason o (λ z. f)
 
   -- ---- the four effects of a call that is carried out
   module _ (x : Kernel) (words ended : List ℕ) where
