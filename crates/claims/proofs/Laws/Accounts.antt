@@ -12,7 +12,7 @@ use Rattle.lines.proofs.Laws.Logic.{by-choice, never, and-left, and-in}
 use Rattle.scheduler.specs.declared.thread.Place.{Place}
 use Rattle.objects.specs.declared.semaphore.Semaphore.{Semaphore}
 use Rattle.objects.specs.declared.pool.Pool.{Pool}
-use Rattle.objects.specs.Pools.{blocksOf, poolFitb, withoutNext, withFree}
+use Rattle.objects.specs.Pools.{blocksOf, blockSizesb, poolFitb, freshPool, withoutNext, withFree}
 use Rattle.objects.proofs.Laws.Pools as Records
 use Rattle.calls.specs.declared.call.Decoded.{Decoded}
 use Rattle.calls.specs.declared.call.Decoded.the-variants.{Known, Unknown}
@@ -26,7 +26,7 @@ use Rattle.kernel.specs.Tables.{runnerOf, semaphoreAt, poolAt, withScheduler, w
 use Rattle.kernel.specs.Answers.{Outcome, refused, carried, guarded, answerOf}
 use Rattle.kernel.specs.General as General
 use Rattle.kernel.specs.Semaphores.{semaphorePlace, counting, semaphoreCreate}
-use Rattle.kernel.specs.Pools.{poolPlace}
+use Rattle.kernel.specs.Pools.{poolPlace, poolCreate}
 use Rattle.kernel.specs.Waits.{oneMore}
 use Rattle.kernel.specs.Sound.{Sound}
 use Rattle.kernel.proofs.Laws.Claims.{runner-there}
@@ -186,3 +186,60 @@ module _ (k : Kernel) (S : Sound k) (caller a b c d : ℕ) (messages : List ℕ)
       (λ e w. let one = unless-none (ltb (min a 16) 16 && not (semaphoreAt k (min a 16) .created)) Statuses.semaphoreError (omega arith) (first-none _ _ e) in
       let low = ltb-true (min a 16) 16 (and-left (ltb (min a 16) 16) _ one) in
       ap (λ (j : ℕ). semaphoreAt (withSemaphore k j (counting b)) a) (let q : min a 16 ≡ a = omega (arith, low) in q) ∙ semaphore-stored k S a (counting b) (omega (arith, low))))
+
+  -- where call 33 is done, the pool is a fresh one with fit sizes
+  abbrev Fresh : Outcome → Type 0
+  Fresh o = eqb (o .status) 0 ≡ true → (blockSizesb b c ≡ true) × (poolAt (o .kernel) a ≡ freshPool b c)
+
+  unfresh : (s : ℕ) → eqb s 0 ≡ false → Fresh (refused k s)
+  unfolding refused
+  unfresh s z w = never w z
+
+  pool-fresh : Fresh (General.step k 33 caller a b c d messages)
+  unfolding General.step General.service decoded knownCall poolCreate Refusals.poolCreateRefusal carried withScheduler poolAt
+  pool-fresh =
+      Serving.known-by k Fresh unfresh caller (BlockPoolCreate (poolNumber a) b c) messages
+      (Serving.guarded-by k Fresh unfresh _ _
+      (λ e w. let one = unless-none (ltb (min a 4) 4 && not (poolAt k (min a 4) .created)) Statuses.poolError (omega arith) (first-none _ _ e) in
+      let low = ltb-true (min a 4) 4 (and-left (ltb (min a 4) 4) _ one) in
+      (unless-none (blockSizesb b c) Statuses.sizeError (omega arith) (first-none _ _ (second-none _ _ e)),
+      ap (λ (j : ℕ). poolAt (withPool k j (freshPool b c)) a) (let q : min a 4 ≡ a = omega (arith, low) in q) ∙ pool-stored k S a (freshPool b c) (omega (arith, low)))))
+
+module _ (k : Kernel) (S : Sound k) (m : Made) (done : doneb (answer k m) ≡ true) where
+  -- the step of that number is done
+  abbrev at : ℕ → Outcome
+  at n = General.step k n (m .caller) (m .a) (m .b) (m .c) (m .d) (m .messages)
+
+  -- what holds of the step of that number where it is done holds of the tables after the call
+  after-done : (P : Kernel → Type 0) (n : ℕ) → m .number ≡ n → (eqb (at n .status) 0 ≡ true → P (at n .kernel)) → P (next k m)
+  unfolding next doneb answerOf
+  after-done P n e h =
+      let i : answer k m ≡ answerOf (at n) = Rolls.answer-is k S m ∙ ap (λ (j : ℕ). answerOf (at j)) e in
+      subst (λ (x : Answer). P (x .kernel)) (sym i) (h (sym (ap (λ (x : Answer). eqb (x .status) 0) i) ∙ done))
+
+  semaphore-since : m .number ≡ 16 → m .b < 4294967296 → (ms : List Made) → Undeleted (semaphorePlace (m .a)) (next k m) ms → SemaphoreAccount (m .a) (m .b) (next k m) ms
+  unfolding counting
+  semaphore-since n low ms u =
+      let e = after-done (λ x. semaphoreAt x (m .a) ≡ counting (m .b)) 16 n (semaphore-started k S (m .caller) (m .a) (m .b) (m .c) (m .d) (m .messages)) in
+      let c : semaphoreAt (next k m) (m .a) .count ≡ m .b = ap (λ (y : Semaphore). y .count) e in
+      subst (λ (b : ℕ). SemaphoreAccount (m .a) b (next k m) ms) c
+      (semaphore-from (m .a) ms (next k m) (Rolls.next-sound k S m) (ap (λ (y : Semaphore). y .created) e) (omega (arith, c, low)) u)
+
+  pool-since : m .number ≡ 33 → (ms : List Made) → Undeleted (poolPlace (m .a)) (next k m) ms → PoolAccount (m .a) (blocksOf (poolAt (next k m) (m .a))) (next k m) ms
+  unfolding freshPool
+  pool-since n ms u =
+      let f = after-done (λ x. (blockSizesb (m .b) (m .c) ≡ true) × (poolAt x (m .a) ≡ freshPool (m .b) (m .c))) 33 n (pool-fresh k S (m .caller) (m .a) (m .b) (m .c) (m .d) (m .messages)) in
+      let e = f .1 in
+      let all : poolAt (next k m) (m .a) .free ≡ blocksOf (poolAt (next k m) (m .a)) = ap (λ (y : Pool). y .free) e ∙ Records.fresh-free (m .b) (m .c) (f .0) ∙ sym (ap blocksOf e) in
+      subst (λ (b : ℕ). PoolAccount (m .a) b (next k m) ms) all
+      (pool-from (m .a) ms (next k m) (Rolls.next-sound k S m) (ap (λ (y : Pool). y .created) e ∙ Records.listing-alike _ _ .0) (ap (λ (y : Pool). length (y .list)) e ∙ Records.listing-slots _ _) u)
+
+-- ---- all of it
+pub accounts : Accounts
+accounts =
+    record {
+      semaphore = λ k S m n low done ms u. semaphore-since k S m done n low ms u;
+      pool = λ k S m n done ms u. pool-since k S m done n ms u;
+      semaphoreFrom = λ k S n made low ms u. semaphore-from n ms k S made low u;
+      poolFrom = λ k S n made slots ms u. pool-from n ms k S made slots u;
+    }
