@@ -3,7 +3,7 @@
 use mathlib.Core.Path.{_≡_}
 use mathlib.Core.List.{List, [], _∷_}
 use mathlib.Core.Bool.{Bool, true, false, _&&_, _||_, not}
-use Prim.Native.Nat.{ℕ, _+_, _-_, _%_, _<_, _≤_}
+use Prim.Native.Nat.{ℕ, _+_, _-_, _/_, _%_, _<_, _≤_}
 use lib.ListN.{length}
 use lib.Dec.{eqb}
 use Rattle.lines.specs.Logic.{oneIf}
@@ -71,6 +71,8 @@ pub record Accounts : Type 0 where
   -- call 33 creates a pool, all of whose blocks are free
   pub pool : (k : Kernel) → Sound k → (m : Made) → m .number ≡ 33 → doneb (answer k m) ≡ true
       → (ms : List Made) → Undeleted (poolPlace (m .a)) (next k m) ms → PoolAccount (m .a) (blocksOf (poolAt (next k m) (m .a))) (next k m) ms
+  -- the total is that of the call's arguments: "blocks = total / (block bytes + 4), rounded down"
+  pub poolTotal : (k : Kernel) → Sound k → (m : Made) → m .number ≡ 33 → doneb (answer k m) ≡ true → blocksOf (poolAt (next k m) (m .a)) ≡ m .c / (m .b + 4)
   -- from any sound tables in which it is created a semaphore has its present count for a start
   pub semaphoreFrom : (k : Kernel) → Sound k → (n : ℕ) → semaphoreAt k n .created ≡ true → semaphoreAt k n .count < 4294967296
       → (ms : List Made) → Undeleted (semaphorePlace n) k ms → SemaphoreAccount n (semaphoreAt k n .count) k ms

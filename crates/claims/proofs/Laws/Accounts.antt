@@ -2,7 +2,7 @@
 use mathlib.Core.Path.{_≡_, refl, sym, ap, _∙_, subst}
 use mathlib.Core.List.{List, [], _∷_}
 use mathlib.Core.Bool.{Bool, true, false, _&&_, not}
-use Prim.Native.Nat.{ℕ, _+_, _-_, _%_, _<_, _≤_, min}
+use Prim.Native.Nat.{ℕ, _+_, _-_, _/_, _%_, _<_, _≤_, min}
 use native.Mathlib.Omega.{arith}
 use lib.ListN.{length}
 use lib.Dec.{eqb, ltb}
@@ -12,7 +12,7 @@ use Rattle.lines.proofs.Laws.Logic.{by-choice, never, and-left, and-in}
 use Rattle.scheduler.specs.declared.thread.Place.{Place}
 use Rattle.objects.specs.declared.semaphore.Semaphore.{Semaphore}
 use Rattle.objects.specs.declared.pool.Pool.{Pool}
-use Rattle.objects.specs.Pools.{blocksOf, blockSizesb, poolFitb, freshPool, withoutNext, withFree}
+use Rattle.objects.specs.Pools.{blocksOf, blockSizesb, poolFitb, listing, freshPool, withoutNext, withFree}
 use Rattle.objects.proofs.Laws.Pools as Records
 use Rattle.calls.specs.declared.call.Decoded.{Decoded}
 use Rattle.calls.specs.declared.call.Decoded.the-variants.{Known, Unknown}
@@ -23,7 +23,7 @@ use Rattle.calls.specs.Statuses as Statuses
 use Rattle.kernel.specs.declared.Kernel.{Kernel}
 use Rattle.kernel.specs.declared.Answer.{Answer}
 use Rattle.kernel.specs.Tables.{runnerOf, semaphoreAt, poolAt, withScheduler, withSemaphore, withPool}
-use Rattle.kernel.specs.Answers.{Outcome, refused, carried, guarded, answerOf}
+use Rattle.kernel.specs.Answers.{Outcome, refused, carried, answerOf}
 use Rattle.kernel.specs.General as General
 use Rattle.kernel.specs.Semaphores.{semaphorePlace, counting, semaphoreCreate}
 use Rattle.kernel.specs.Pools.{poolPlace, poolCreate}
@@ -33,7 +33,7 @@ use Rattle.kernel.proofs.Laws.Claims.{runner-there}
 use Rattle.kernel.proofs.Laws.Answers.{first-none, second-none, unless-none}
 use Rattle.claims.specs.Lists.{Made, answer, next, after}
 use Rattle.claims.specs.Rolls.{doneb, gave}
-use Rattle.claims.specs.Accounts.{servedb, servedLater, served, deletesb, Undeleted, SemaphoreAccount, PoolAccount, Accounts}
+use Rattle.claims.specs.Accounts.{servedLater, served, deletesb, Undeleted, SemaphoreAccount, PoolAccount, Accounts}
 use Rattle.claims.proofs.Laws.Decoded.{Is, decoded-is}
 use Rattle.claims.proofs.Laws.Serving
 use Rattle.claims.proofs.Laws.Rolls
@@ -201,9 +201,10 @@ module _ (k : Kernel) (S : Sound k) (caller a b c d : ℕ) (messages : List ℕ)
       Serving.known-by k Fresh unfresh caller (BlockPoolCreate (poolNumber a) b c) messages
       (Serving.guarded-by k Fresh unfresh _ _
       (λ e w. let one = unless-none (ltb (min a 4) 4 && not (poolAt k (min a 4) .created)) Statuses.poolError (omega arith) (first-none _ _ e) in
-      let low = ltb-true (min a 4) 4 (and-left (ltb (min a 4) 4) _ one) in
-      (unless-none (blockSizesb b c) Statuses.sizeError (omega arith) (first-none _ _ (second-none _ _ e)),
-      ap (λ (j : ℕ). poolAt (withPool k j (freshPool b c)) a) (let q : min a 4 ≡ a = omega (arith, low) in q) ∙ pool-stored k S a (freshPool b c) (omega (arith, low)))))
+      let low = ltb-true (min a 4) 4 (and-left (ltb (min a 4) 4) _ one) in (
+        unless-none (blockSizesb b c) Statuses.sizeError (omega arith) (first-none _ _ (second-none _ _ e)),
+        ap (λ (j : ℕ). poolAt (withPool k j (freshPool b c)) a) (let q : min a 4 ≡ a = omega (arith, low) in q) ∙ pool-stored k S a (freshPool b c) (omega (arith, low)),
+      )))
 
 module _ (k : Kernel) (S : Sound k) (m : Made) (done : doneb (answer k m) ≡ true) where
   -- the step of that number is done
@@ -225,14 +226,21 @@ module _ (k : Kernel) (S : Sound k) (m : Made) (done : doneb (answer k m) ≡ tr
       subst (λ (b : ℕ). SemaphoreAccount (m .a) b (next k m) ms) c
       (semaphore-from (m .a) ms (next k m) (Rolls.next-sound k S m) (ap (λ (y : Semaphore). y .created) e) (omega (arith, c, low)) u)
 
+  fresh : m .number ≡ 33 → (blockSizesb (m .b) (m .c) ≡ true) × (poolAt (next k m) (m .a) ≡ freshPool (m .b) (m .c))
+  fresh n = after-done (λ x. (blockSizesb (m .b) (m .c) ≡ true) × (poolAt x (m .a) ≡ freshPool (m .b) (m .c))) 33 n (pool-fresh k S (m .caller) (m .a) (m .b) (m .c) (m .d) (m .messages))
+
   pool-since : m .number ≡ 33 → (ms : List Made) → Undeleted (poolPlace (m .a)) (next k m) ms → PoolAccount (m .a) (blocksOf (poolAt (next k m) (m .a))) (next k m) ms
   unfolding freshPool
   pool-since n ms u =
-      let f = after-done (λ x. (blockSizesb (m .b) (m .c) ≡ true) × (poolAt x (m .a) ≡ freshPool (m .b) (m .c))) 33 n (pool-fresh k S (m .caller) (m .a) (m .b) (m .c) (m .d) (m .messages)) in
+      let f = fresh n in
       let e = f .1 in
       let all : poolAt (next k m) (m .a) .free ≡ blocksOf (poolAt (next k m) (m .a)) = ap (λ (y : Pool). y .free) e ∙ Records.fresh-free (m .b) (m .c) (f .0) ∙ sym (ap blocksOf e) in
       subst (λ (b : ℕ). PoolAccount (m .a) b (next k m) ms) all
       (pool-from (m .a) ms (next k m) (Rolls.next-sound k S m) (ap (λ (y : Pool). y .created) e ∙ Records.listing-alike _ _ .0) (ap (λ (y : Pool). length (y .list)) e ∙ Records.listing-slots _ _) u)
+
+  pool-total : m .number ≡ 33 → blocksOf (poolAt (next k m) (m .a)) ≡ m .c / (m .b + 4)
+  unfolding freshPool listing blocksOf
+  pool-total n = ap blocksOf (fresh n .1)
 
 -- ---- all of it
 pub accounts : Accounts
@@ -240,6 +248,7 @@ accounts =
     record {
       semaphore = λ k S m n low done ms u. semaphore-since k S m done n low ms u;
       pool = λ k S m n done ms u. pool-since k S m done n ms u;
+      poolTotal = λ k S m n done. pool-total k S m done n;
       semaphoreFrom = λ k S n made low ms u. semaphore-from n ms k S made low u;
       poolFrom = λ k S n made slots ms u. pool-from n ms k S made slots u;
     }

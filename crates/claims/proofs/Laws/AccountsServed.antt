@@ -4,8 +4,7 @@ use mathlib.Core.List.{List, [], _∷_}
 use mathlib.Core.Bool.{Bool, true, false, _&&_, not}
 use Prim.Native.Nat.{ℕ, suc, _<_, _≤_}
 use native.Mathlib.Omega.{arith}
-use lib.ListN.{length, getD, set}
-use lib.Seq.{getD-set-same}
+use lib.ListN.{length}
 use lib.Dec.{eqb, ltb}
 use borrow.Author.Tests.{eqb-true, eq-eqb, ne-eqb, ltb-true}
 use Rattle.lines.specs.Logic.{if_then_else_, oneIf, implies}
@@ -29,7 +28,7 @@ use Rattle.calls.specs.Statuses as Statuses
 use Rattle.waiting.specs.Ticks.{timeoutStatus}
 use Rattle.waiting.specs.Fit.{heldFitb, statusFitb}
 use Rattle.kernel.specs.declared.Kernel.{Kernel}
-use Rattle.kernel.specs.Tables.{threadOf, heldAt, withScheduler, withHeld}
+use Rattle.kernel.specs.Tables.{threadOf, heldAt, withScheduler}
 use Rattle.kernel.specs.Tables as Tables
 use Rattle.kernel.specs.Answers.{carried}
 use Rattle.kernel.specs.Waits.{endWait, ticked}
@@ -62,7 +61,7 @@ filter-first f (x ∷ xs) l one is others =
 -- who holds another status is not served
 unserved : (x : Kernel) (u : ℕ) → (heldAt x u .status ≡ 0 → ⊥) → servedb x u ≡ false
 unfolding servedb
-unserved x u n = ap (λ (b : Bool). b && not (finishedb (threadOf x u))) (ne-eqb (heldAt x u .status) 0 n)
+unserved x u n = rw (ne-eqb (heldAt x u .status) 0 n) refl
 
 -- who is finished is not served
 finished-unserved : (x : Kernel) (u : ℕ) → finishedb (threadOf x u) ≡ true → servedb x u ≡ false

@@ -1,12 +1,11 @@
 -- Every call and the account of a semaphore or pool.
 use mathlib.Core.Path.{_≡_, refl, sym, ap, _∙_, subst}
-use mathlib.Core.List.{List, []}
+use mathlib.Core.List.{List}
 use mathlib.Core.Bool.{Bool, true, false, _&&_, _||_, not}
 use Prim.Native.Nat.{ℕ, _<_, min}
 use native.Mathlib.Omega.{arith}
 use lib.Dec.{eqb, ltb}
-use borrow.Author.Tests.{eqb-true, eq-eqb, not-true}
-use Rattle.lines.specs.Logic.{if_then_else_}
+use borrow.Author.Tests.{eq-eqb, not-true}
 use Rattle.lines.proofs.Laws.Logic.{by-test, by-eq, by-choice, never, and-right}
 use Rattle.scheduler.specs.declared.thread.Thread.{Thread}
 use Rattle.scheduler.specs.declared.thread.Place.{Place}
@@ -24,8 +23,8 @@ use Rattle.calls.specs.declared.call.Call.{Call}
 use Rattle.calls.specs.declared.call.Call.the-variants.{ThreadCreate, ThreadDelete, ThreadResume, ThreadSuspend, ThreadTerminate, ThreadReset, ThreadFinish, ThreadRelinquish, ThreadSleep, ThreadWaitAbort, ThreadPriorityChange, ThreadPreemptionChange, TimeGet, TimeSet, Tick, SemaphoreCreate, SemaphoreDelete, SemaphoreGet, SemaphorePut, SemaphoreCeilingPut, SemaphorePrioritize, QueueCreate, QueueDelete, QueueSend, QueueFrontSend, QueueReceive, QueueFlush, QueuePrioritize, EventFlagsCreate, EventFlagsDelete, EventFlagsSet, EventFlagsGet, BlockPoolCreate, BlockPoolDelete, BlockAllocate, BlockRelease, BlockPoolPrioritize, ThreadStateRead, ThreadWordsRead}
 use Rattle.kernel.specs.declared.Kernel.{Kernel}
 use Rattle.kernel.specs.Tables.{threadOf, runnerOf, heldAt, semaphoreAt, queueAt, groupAt, poolAt, given, withScheduler, withHeld, withQueue, withGroup, withClock}
-use Rattle.kernel.specs.Answers.{Outcome, refused, carried, guarded}
-use Rattle.kernel.specs.Waits.{endWait, startWait, ticked}
+use Rattle.kernel.specs.Answers.{Outcome, carried, guarded}
+use Rattle.kernel.specs.Waits.{endWait, startWait}
 use Rattle.kernel.specs.Threads as Threads
 use Rattle.kernel.specs.Clock as Clock
 use Rattle.kernel.specs.Semaphores as Semaphores
@@ -189,6 +188,19 @@ module _ (p : Place) (waits : 4 < p .state) (k : Kernel) (S : Sound k) (m : Made
   prioritise-effect reason s status words ended q =
       AccountsSteps.guarded-effect p waits k S m reason _ (λ w. plain-carried (withScheduler k s) status words ended (later-held p waits k S _ (λ u c. scheduler-held k s status words ended u)) (record { semaphores = refl; pools = refl }) q)
 
+  -- ---- a call of another semaphore or pool, which counts for nothing here
+  other-effect : (o : Outcome) → Still.Still p k (o .kernel) → Same p k (o .kernel) → (p .state ≡ 6 → m .number < 22 → m .a ≡ p .number → ⊥) → (p .state ≡ 8 → 32 < m .number → m .a ≡ p .number → ⊥) → E o
+  other-effect o a r not6 not8 =
+      AccountsSteps.still-effect p waits k S m o a r
+      (by-test (givesb p m)
+      (λ g. let on = Steps.gives-on p m g in
+      Serving.gives-by p m g (λ z n. absurd (not6 z (omega (arith, n)) on)) (λ z n. absurd (not6 z (omega (arith, n)) on)) (λ z n. absurd (queueless z)) (λ z n. absurd (queueless z)) (λ z n. absurd (not8 z (omega (arith, n)) on)))
+      (λ g. g))
+      (by-test (takesb p m)
+      (λ g. let on = Serving.takes-on p m g in
+      Serving.takes-by p m g (λ z n. absurd (not6 z (omega (arith, n)) on)) (λ z n. absurd (queueless z)) (λ z n. absurd (not8 z (omega (arith, n)) on)))
+      (λ g. g))
+
   -- ---- delete: not here, or refused
   delete-effect : (q : Place) (reason : ℕ) (o : Outcome) → o .status ≡ 0 → (q ≡ p → deletesb p m ≡ true) → ((q ≡ p → ⊥) → E (guarded k reason o)) → (deletesb p m ≡ true → guarded k reason o .status ≡ 0 → ⊥) → E (guarded k reason o)
   delete-effect q reason o s here away calm =
@@ -221,21 +233,6 @@ module _ (p : Place) (waits : 4 < p .state) (k : Kernel) (S : Sound k) (m : Made
       not-on6 : p .state ≡ 6 → m .a ≡ p .number → ⊥
       not-on6 z a = let l = Rolls.semaphore-small k S (p .number) (made6 z) in let e : s ≡ p .number = omega (arith, l, a, i) in away (λ j. record { state = sym z j; number = e j })
 
-      gives-away6 : m .number < 22 → givesb p m ≡ false
-      gives-away6 l =
-          by-test (givesb p m)
-          (λ g. Serving.gives-by p m g (λ z n. absurd (not-on6 z (Steps.gives-on p m g))) (λ z n. absurd (not-on6 z (Steps.gives-on p m g))) (λ z n. absurd (queueless z)) (λ z n. absurd (queueless z)) (λ z n. absurd (omega (arith, n, l))))
-          (λ g. g)
-
-      takes-away6 : m .number < 22 → takesb p m ≡ false
-      takes-away6 l =
-          by-test (takesb p m)
-          (λ g. Serving.takes-by p m g (λ z n. absurd (not-on6 z (Serving.takes-on p m g))) (λ z n. absurd (queueless z)) (λ z n. absurd (omega (arith, n, l))))
-          (λ g. g)
-
-      away-effect6 : (o : Outcome) → Still.Still p k (o .kernel) → Same p k (o .kernel) → m .number < 22 → E o
-      away-effect6 o a r l = AccountsSteps.still-effect p waits k S m o a r (gives-away6 l) (takes-away6 l)
-
       get-kept : (caller wait : ℕ) → Same p k (Semaphores.semaphoreGet k caller s wait .kernel)
       unfolding Semaphores.semaphoreGet startWait withHeld withScheduler
       get-kept caller wait =
@@ -263,14 +260,14 @@ module _ (p : Place) (waits : 4 < p .state) (k : Kernel) (S : Sound k) (m : Made
     get-any n caller runs wait =
         by-place sp p
         (λ z. subst (λ (q : Place). AccountsSteps.Effect q k m (Semaphores.semaphoreGet k caller s wait .status) (Semaphores.semaphoreGet k caller s wait .kernel)) z (AccountsSteps.get-effect k S m s (low6 z) (on6 z) n caller runs wait))
-        (λ away. away-effect6 away (Semaphores.semaphoreGet k caller s wait) (Quiet.semaphore-get-quiet p waits k S s caller runs wait) (get-kept away caller wait) (omega (arith, n)))
+        (λ away. other-effect (Semaphores.semaphoreGet k caller s wait) (Quiet.semaphore-get-quiet p waits k S s caller runs wait) (get-kept away caller wait) (λ z l. not-on6 away z) (λ z l. absurd (omega (arith, n, l))))
 
     put-any : (reason : ℕ) → (eqb (m .number) 19 || eqb (m .number) 20) ≡ true → AccountsSteps.takelessb (m .number) ≡ true → m .number < 22 → ((sp ≡ p → ⊥) → Still.Still p k (guarded k reason (Semaphores.putOn k s) .kernel)) → E (guarded k reason (Semaphores.putOn k s))
     put-any reason t l few still =
         by-place sp p
         (λ z. AccountsSteps.guarded-effect p waits k S m reason (Semaphores.putOn k s)
         (λ w. subst (λ (q : Place). AccountsSteps.Effect q k m (Semaphores.putOn k s .status) (Semaphores.putOn k s .kernel)) z (AccountsSteps.put-effect k S m s (low6 z) (on6 z) t l)))
-        (λ away. away-effect6 away (guarded k reason (Semaphores.putOn k s)) (still away) (put-kept away reason) few)
+        (λ away. other-effect (guarded k reason (Semaphores.putOn k s)) (still away) (put-kept away reason) (λ z l. not-on6 away z) (λ z l. absurd (omega (arith, few, l))))
 
   -- ---- pools
   module _ (l : ℕ) (i : l ≡ min (m .a) 4) where
@@ -299,21 +296,6 @@ module _ (p : Place) (waits : 4 < p .state) (k : Kernel) (S : Sound k) (m : Made
       not-on8 : p .state ≡ 8 → m .a ≡ p .number → ⊥
       not-on8 z a = let s = Rolls.pool-small k S (p .number) (made8 z) in let e : l ≡ p .number = omega (arith, s, a, i) in away (λ j. record { state = sym z j; number = e j })
 
-      gives-away8 : 32 < m .number → givesb p m ≡ false
-      gives-away8 h =
-          by-test (givesb p m)
-          (λ g. Serving.gives-by p m g (λ z n. absurd (omega (arith, n, h))) (λ z n. absurd (omega (arith, n, h))) (λ z n. absurd (queueless z)) (λ z n. absurd (queueless z)) (λ z n. absurd (not-on8 z (Steps.gives-on p m g))))
-          (λ g. g)
-
-      takes-away8 : 32 < m .number → takesb p m ≡ false
-      takes-away8 h =
-          by-test (takesb p m)
-          (λ g. Serving.takes-by p m g (λ z n. absurd (omega (arith, n, h))) (λ z n. absurd (queueless z)) (λ z n. absurd (not-on8 z (Serving.takes-on p m g))))
-          (λ g. g)
-
-      away-effect8 : (o : Outcome) → Still.Still p k (o .kernel) → Same p k (o .kernel) → 32 < m .number → E o
-      away-effect8 o a r h = AccountsSteps.still-effect p waits k S m o a r (gives-away8 h) (takes-away8 h)
-
       allocate-kept : (caller wait : ℕ) → Same p k (Pools.blockAllocate k caller l wait .kernel)
       unfolding Pools.blockAllocate startWait withHeld withScheduler
       allocate-kept caller wait =
@@ -341,13 +323,13 @@ module _ (p : Place) (waits : 4 < p .state) (k : Kernel) (S : Sound k) (m : Made
     allocate-any n caller runs wait =
         by-place lp p
         (λ z. subst (λ (q : Place). AccountsSteps.Effect q k m (Pools.blockAllocate k caller l wait .status) (Pools.blockAllocate k caller l wait .kernel)) z (AccountsSteps.allocate-effect k S m l (low8 z) (on8 z) n caller runs wait))
-        (λ away. away-effect8 away (Pools.blockAllocate k caller l wait) (Quiet.allocate-quiet p waits k S l caller runs wait) (allocate-kept away caller wait) (omega (arith, n)))
+        (λ away. other-effect (Pools.blockAllocate k caller l wait) (Quiet.allocate-quiet p waits k S l caller runs wait) (allocate-kept away caller wait) (λ z h. absurd (omega (arith, n, h))) (λ z h. not-on8 away z))
 
     release-any : m .number ≡ 36 → (block : ℕ) → E (Pools.blockRelease k l block)
     release-any n block =
         by-place lp p
         (λ z. subst (λ (q : Place). AccountsSteps.Effect q k m (Pools.blockRelease k l block .status) (Pools.blockRelease k l block .kernel)) z (AccountsSteps.release-effect k S m l (low8 z) (on8 z) n block))
-        (λ away. away-effect8 away (Pools.blockRelease k l block) (Quiet.release-quiet p waits k S l away block) (release-kept away block) (omega (arith, n)))
+        (λ away. other-effect (Pools.blockRelease k l block) (Quiet.release-quiet p waits k S l away block) (release-kept away block) (λ z h. absurd (omega (arith, n, h))) (λ z h. not-on8 away z))
 
   -- ---- every call, unless it deletes the object
   pub service-effect : (caller : ℕ) → (eqb caller 2 ≡ true → runnerOf k < 32) → (call : Call) (messages : List ℕ) → Numbered (m .number) (m .a) call

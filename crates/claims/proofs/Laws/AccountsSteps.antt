@@ -1,20 +1,18 @@
 -- What each call enters in the account of a semaphore or pool.
-use mathlib.Core.Path.{_≡_, refl, sym, ap, _∙_, subst}
-use mathlib.Core.List.{List, []}
+use mathlib.Core.Path.{_≡_, refl, ap}
+use mathlib.Core.List.{List}
 use mathlib.Core.Bool.{Bool, true, false, _&&_, _||_, not}
-use Prim.Native.Nat.{ℕ, _-_, _<_, min}
+use Prim.Native.Nat.{ℕ, _-_, _<_}
 use native.Mathlib.Omega.{arith}
-use lib.Seq.{getD-set-same}
 use lib.Dec.{eqb, ltb}
-use borrow.Author.Tests.{eqb-true, eq-eqb, ltb-true, not-true}
-use Rattle.lines.specs.Logic.{if_then_else_, oneIf}
-use Rattle.lines.proofs.Laws.Logic.{by-test, by-eq, by-choice, never, and-left, and-right}
+use borrow.Author.Tests.{eq-eqb, ltb-true}
+use Rattle.lines.specs.Logic.{oneIf}
+use Rattle.lines.proofs.Laws.Logic.{by-test, by-choice, never}
 use Rattle.scheduler.specs.declared.thread.Place.{Place}
 use Rattle.scheduler.specs.Orders.{firstAt}
-use Rattle.objects.specs.Semaphores.{noSemaphore}
-use Rattle.objects.specs.Pools.{noPool, usedb, withoutNext, withFree}
+use Rattle.objects.specs.Pools.{usedb, withoutNext, withFree}
 use Rattle.kernel.specs.declared.Kernel.{Kernel}
-use Rattle.kernel.specs.Tables.{semaphoreAt, poolAt, runnerOf, heldAt, withScheduler, withHeld, withSemaphore, withPool}
+use Rattle.kernel.specs.Tables.{semaphoreAt, poolAt, runnerOf, withScheduler, withHeld}
 use Rattle.kernel.specs.Answers.{Outcome, refused, carried, guarded}
 use Rattle.kernel.specs.Waits.{endWait, startWait, oneMore}
 use Rattle.kernel.specs.Semaphores as Semaphores
@@ -30,7 +28,7 @@ use Rattle.claims.proofs.Laws.Quiet
 use Rattle.claims.proofs.Laws.Steps
 use Rattle.claims.proofs.Laws.Serving
 use Rattle.claims.proofs.Laws.AccountsServed.{later, later-held, later-nobody, later-served}
-use Rattle.claims.proofs.Laws.AccountsRecords.{Untouched, Same, same-self, same-semaphore, same-pool, semaphore-stored, pool-stored, untouched-each, untouched-ticked, kept-guarded, kept-carried, kept-either, untouched-carried}
+use Rattle.claims.proofs.Laws.AccountsRecords.{Untouched, Same, same-self, semaphore-stored, pool-stored, untouched-carried}
 
 -- ---- the entries of a call with a status
 abbrev pub gives : Place → Made → ℕ → ℕ
