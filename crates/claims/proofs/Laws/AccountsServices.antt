@@ -1,7 +1,7 @@
 -- Every call and the account of a semaphore or pool.
 use mathlib.Core.Path.{_≡_, refl, sym, ap, _∙_, subst}
 use mathlib.Core.List.{List}
-use mathlib.Core.Bool.{Bool, true, false, _&&_, _||_, not}
+use mathlib.Core.Bool.{true, false, _&&_, _||_, not}
 use Prim.Native.Nat.{ℕ, _<_, min}
 use native.Mathlib.Omega.{arith}
 use lib.Dec.{eqb, ltb}
@@ -10,21 +10,18 @@ use Rattle.lines.proofs.Laws.Logic.{by-test, by-eq, by-choice, never, and-right
 use Rattle.scheduler.specs.declared.thread.Thread.{Thread}
 use Rattle.scheduler.specs.declared.thread.Place.{Place}
 use Rattle.scheduler.specs.declared.Scheduler.{Scheduler}
-use Rattle.scheduler.specs.Threads.{readyb, pausedb, atRest, inState, placedb}
-use Rattle.scheduler.specs.Orders.{firstAt}
+use Rattle.scheduler.specs.Threads.{atRest, inState, placedb}
 use Rattle.scheduler.specs.Sound.{Steady}
 use Rattle.scheduler.proofs.Laws.States
-use Rattle.objects.specs.Queues.{emptyb, roomb}
-use Rattle.objects.specs.Groups.{metb}
 use Rattle.calls.specs.Held.{noWords}
 use Rattle.calls.specs.Statuses as Statuses
 use Rattle.calls.specs.Refusals
 use Rattle.calls.specs.declared.call.Call.{Call}
 use Rattle.calls.specs.declared.call.Call.the-variants.{ThreadCreate, ThreadDelete, ThreadResume, ThreadSuspend, ThreadTerminate, ThreadReset, ThreadFinish, ThreadRelinquish, ThreadSleep, ThreadWaitAbort, ThreadPriorityChange, ThreadPreemptionChange, TimeGet, TimeSet, Tick, SemaphoreCreate, SemaphoreDelete, SemaphoreGet, SemaphorePut, SemaphoreCeilingPut, SemaphorePrioritize, QueueCreate, QueueDelete, QueueSend, QueueFrontSend, QueueReceive, QueueFlush, QueuePrioritize, EventFlagsCreate, EventFlagsDelete, EventFlagsSet, EventFlagsGet, BlockPoolCreate, BlockPoolDelete, BlockAllocate, BlockRelease, BlockPoolPrioritize, ThreadStateRead, ThreadWordsRead}
 use Rattle.kernel.specs.declared.Kernel.{Kernel}
-use Rattle.kernel.specs.Tables.{threadOf, runnerOf, heldAt, semaphoreAt, queueAt, groupAt, poolAt, given, withScheduler, withHeld, withQueue, withGroup, withClock}
+use Rattle.kernel.specs.Tables.{threadOf, runnerOf, heldAt, semaphoreAt, poolAt, given, withScheduler, withHeld, withQueue, withGroup}
 use Rattle.kernel.specs.Answers.{Outcome, carried, guarded}
-use Rattle.kernel.specs.Waits.{endWait, startWait}
+use Rattle.kernel.specs.Waits.{endWait}
 use Rattle.kernel.specs.Threads as Threads
 use Rattle.kernel.specs.Clock as Clock
 use Rattle.kernel.specs.Semaphores as Semaphores
@@ -44,7 +41,8 @@ use Rattle.claims.proofs.Laws.Steps
 use Rattle.claims.proofs.Laws.Serving
 use Rattle.claims.proofs.Laws.Rolls
 use Rattle.claims.proofs.Laws.AccountsServed.{later, later-held, later-ended, later-terminated, later-ticked}
-use Rattle.claims.proofs.Laws.AccountsRecords.{Untouched, Same, same-untouched, same-semaphore, same-pool, untouched-each, untouched-ticked, kept-guarded, kept-carried, kept-either, untouched-carried}
+use Rattle.claims.proofs.Laws.AccountsRecords
+use Rattle.claims.proofs.Laws.AccountsRecords.{untouched-self, Untouched, Same, same-semaphore, same-pool, untouched-ticked, kept-guarded, kept-carried, untouched-carried}
 use Rattle.claims.proofs.Laws.AccountsSteps
 
 -- another scheduler changes nothing held
@@ -78,67 +76,9 @@ module _ (p : Place) (waits : 4 < p .state) (k : Kernel) (S : Sound k) (m : Made
   quiet-effect : (o : Outcome) → Still.Still p k (o .kernel) → Same p k (o .kernel) → AccountsSteps.plainb (m .number) ≡ true → E o
   quiet-effect o a = plain-effect o (later-held p waits k S (o .kernel) (a .held))
 
-  -- ---- records
-  abbrev alike : Untouched k k
-  alike = record { semaphores = refl; pools = refl }
-
-  call-kept : (reason : ℕ) (x : Kernel) (status : ℕ) (words ended : List ℕ) → Untouched k x → Same p k (guarded k reason (carried x status words ended) .kernel)
-  call-kept reason x status words ended u = kept-guarded p k reason _ (λ e. untouched-carried p k x status words ended u)
-
   -- a call that is carried out, counts for nothing and changes no record
   plain-carried : (x : Kernel) (status : ℕ) (words ended : List ℕ) → later p k (carried x status words ended .kernel) ≡ 0 → Untouched k x → AccountsSteps.plainb (m .number) ≡ true → E (carried x status words ended)
   plain-carried x status words ended l u = plain-effect (carried x status words ended) l (untouched-carried p k x status words ended u)
-
-  -- ---- the calls with choices that change neither a semaphore nor a pool
-  resume-kept : (t : ℕ) → Same p k (Threads.threadResume k t .kernel)
-  unfolding Threads.threadResume Threads.lifted Threads.resumed withScheduler
-  resume-kept t = kept-guarded p k _ _ (λ e. kept-either p k (threadOf k t .suspending) _ _ (untouched-carried p k _ _ _ _ (record { semaphores = refl; pools = refl })) (untouched-carried p k _ _ _ _ (record { semaphores = refl; pools = refl })))
-
-  suspend-kept : (t : ℕ) → Same p k (Threads.threadSuspend k t .kernel)
-  unfolding Threads.threadSuspend withScheduler
-  suspend-kept t = kept-guarded p k _ _ (λ e. kept-either p k (pausedb (threadOf k t)) _ _ (untouched-carried p k _ _ _ _ (record { semaphores = refl; pools = refl })) (kept-either p k (readyb (threadOf k t)) _ _ (untouched-carried p k _ _ _ _ (record { semaphores = refl; pools = refl })) (untouched-carried p k k _ _ _ alike)))
-
-  relinquish-kept : (caller : ℕ) → Same p k (Threads.threadRelinquish k caller .kernel)
-  unfolding Threads.threadRelinquish withScheduler
-  relinquish-kept caller = kept-guarded p k _ _ (λ e. same-untouched p k _ (record { semaphores = refl; pools = refl }))
-
-  sleep-kept : (caller ticks : ℕ) → Same p k (Threads.threadSleep k caller ticks .kernel)
-  unfolding Threads.threadSleep startWait withHeld withScheduler
-  sleep-kept caller ticks = kept-guarded p k _ _ (λ e. kept-either p k (eqb ticks 0) _ _ (untouched-carried p k k _ _ _ alike) (untouched-carried p k _ _ _ _ (record { semaphores = refl; pools = refl })))
-
-  clock-kept : (time : ℕ) → Same p k (Clock.timeSet k time .kernel)
-  unfolding Clock.timeSet withClock
-  clock-kept time = untouched-carried p k _ _ _ _ (record { semaphores = refl; pools = refl })
-
-  queue-delete-kept : (caller n : ℕ) → Same p k (Queues.queueDelete k caller n .kernel)
-  unfolding Queues.queueDelete Queues.endQueue withQueue
-  queue-delete-kept caller n = call-kept _ _ _ _ _ (record { semaphores = untouched-each k _ _ _ .semaphores; pools = untouched-each k _ _ _ .pools })
-
-  send-kept : (caller n wait index : ℕ) (front : Bool) (messages : List ℕ) → Same p k (Queues.queueSend k caller n wait index front messages .kernel)
-  unfolding Queues.queueSend Queues.sendTo endWait startWait withHeld withScheduler withQueue
-  send-kept caller n wait index front messages =
-      kept-guarded p k _ _ (λ e. kept-either p k (roomb (queueAt k n)) _ _ (kept-either p k (ltb (firstAt (k .scheduler) (Queues.queuePlace n)) 32) _ _ (untouched-carried p k _ _ _ _ (record { semaphores = refl; pools = refl })) (untouched-carried p k _ _ _ _ (record { semaphores = refl; pools = refl }))) (untouched-carried p k _ _ _ _ (record { semaphores = refl; pools = refl })))
-
-  receive-kept : (caller n wait : ℕ) → Same p k (Queues.queueReceive k caller n wait .kernel)
-  unfolding Queues.queueReceive Queues.receiveFrom Queues.receivePast endWait startWait withHeld withScheduler withQueue
-  receive-kept caller n wait =
-      kept-guarded p k _ _ (λ e. kept-either p k (emptyb (queueAt k n)) _ _ (untouched-carried p k _ _ _ _ (record { semaphores = refl; pools = refl })) (kept-either p k (ltb (firstAt (k .scheduler) (Queues.queuePlace n)) 32) _ _ (untouched-carried p k _ _ _ _ (record { semaphores = refl; pools = refl })) (untouched-carried p k _ _ _ _ (record { semaphores = refl; pools = refl }))))
-
-  flush-kept : (n : ℕ) → Same p k (Queues.queueFlush k n .kernel)
-  unfolding Queues.queueFlush Queues.endQueue withQueue
-  flush-kept n = kept-guarded p k _ _ (λ e. kept-either p k (emptyb (queueAt k n)) _ _ (untouched-carried p k k _ _ _ alike) (untouched-carried p k _ _ _ _ (record { semaphores = untouched-each k _ _ _ .semaphores; pools = untouched-each k _ _ _ .pools })))
-
-  group-delete-kept : (caller n : ℕ) → Same p k (Groups.groupDelete k caller n .kernel)
-  unfolding Groups.groupDelete withGroup
-  group-delete-kept caller n = call-kept _ _ _ _ _ (record { semaphores = untouched-each k _ _ _ .semaphores; pools = untouched-each k _ _ _ .pools })
-
-  set-kept : (n flags option : ℕ) → Same p k (Groups.groupSet k n flags option .kernel)
-  unfolding Groups.groupSet Groups.setOr Groups.setAnd withGroup
-  set-kept n flags option = kept-guarded p k _ _ (λ e. kept-either p k (eqb option 0) _ _ (untouched-carried p k _ _ _ _ (record { semaphores = untouched-each k _ _ _ .semaphores; pools = untouched-each k _ _ _ .pools })) (untouched-carried p k _ _ _ _ (record { semaphores = refl; pools = refl })))
-
-  group-get-kept : (caller n request option wait : ℕ) → Same p k (Groups.groupGet k caller n request option wait .kernel)
-  unfolding Groups.groupGet startWait withHeld withScheduler withGroup
-  group-get-kept caller n request option wait = kept-guarded p k _ _ (λ e. kept-either p k (metb (groupAt k n .flags) request option) _ _ (untouched-carried p k _ _ _ _ (record { semaphores = refl; pools = refl })) (untouched-carried p k _ _ _ _ (record { semaphores = refl; pools = refl })))
 
   -- ---- the other objects
   no-queue : (n : ℕ) → Queues.queuePlace n ≡ p → ⊥
@@ -150,7 +90,7 @@ module _ (p : Place) (waits : 4 < p .state) (k : Kernel) (S : Sound k) (m : Made
   -- ---- calls 5, 10, 13, 15
   -- a call that changes nothing but who runs
   same-effect : (status : ℕ) (words ended : List ℕ) → AccountsSteps.plainb (m .number) ≡ true → E (carried k status words ended)
-  same-effect status words ended = plain-carried k status words ended (later-held p waits k S _ (Still.still-carried p k T k status words ended (Still.still-same p k T) .held)) alike
+  same-effect status words ended = plain-carried k status words ended (later-held p waits k S _ (Still.still-carried p k T k status words ended (Still.still-same p k T) .held)) (untouched-self k)
 
   time-effect : m .number ≡ 13 → E (Clock.timeGet k)
   unfolding Clock.timeGet
@@ -233,41 +173,27 @@ module _ (p : Place) (waits : 4 < p .state) (k : Kernel) (S : Sound k) (m : Made
       not-on6 : p .state ≡ 6 → m .a ≡ p .number → ⊥
       not-on6 z a = let l = Rolls.semaphore-small k S (p .number) (made6 z) in let e : s ≡ p .number = omega (arith, l, a, i) in away (λ j. record { state = sym z j; number = e j })
 
-      get-kept : (caller wait : ℕ) → Same p k (Semaphores.semaphoreGet k caller s wait .kernel)
-      unfolding Semaphores.semaphoreGet startWait withHeld withScheduler
-      get-kept caller wait =
-          kept-guarded p k _ _ (λ e. kept-either p k (ltb 0 (semaphoreAt k s .count)) _ _ (kept-carried p k _ _ _ _ (same-semaphore p k k s _ away alike)) (untouched-carried p k _ _ _ _ (record { semaphores = refl; pools = refl })))
-
-      put-kept : (reason : ℕ) → Same p k (guarded k reason (Semaphores.putOn k s) .kernel)
-      unfolding Semaphores.putOn endWait withHeld withScheduler
-      put-kept reason =
-          kept-guarded p k _ _ (λ e. kept-either p k (ltb (firstAt (k .scheduler) sp) 32) _ _ (untouched-carried p k _ _ _ _ (record { semaphores = refl; pools = refl })) (kept-carried p k _ _ _ _ (same-semaphore p k k s _ away alike)))
-
-      delete-kept : (caller : ℕ) → Same p k (Semaphores.semaphoreDelete k caller s .kernel)
-      unfolding Semaphores.semaphoreDelete
-      delete-kept caller = kept-guarded p k _ _ (λ e. kept-carried p k _ _ _ _ (same-semaphore p k _ s _ away (untouched-each k _ _ _)))
-
     -- a semaphore that is created is not created again
     create-kept : (caller count : ℕ) → Same p k (Semaphores.semaphoreCreate k caller s count .kernel)
     unfolding Semaphores.semaphoreCreate Refusals.semaphoreCreateRefusal
     create-kept caller count =
         kept-guarded p k _ _
         (λ e. let new = not-true (semaphoreAt k s .created) (and-right (ltb s 16) _ (unless-none (ltb s 16 && not (semaphoreAt k s .created)) Statuses.semaphoreError (omega arith) (first-none _ _ e))) in
-        kept-carried p k _ _ _ _ (same-semaphore p k k s _ (λ z. never (ap (λ (n : ℕ). semaphoreAt k n .created) (number6 z) ∙ made6 (state6 z)) new) alike))
+        kept-carried p k _ _ _ _ (same-semaphore p k k s _ (λ z. never (ap (λ (n : ℕ). semaphoreAt k n .created) (number6 z) ∙ made6 (state6 z)) new) (untouched-self k)))
 
     -- the calls
     get-any : m .number ≡ 18 → (caller : ℕ) → (eqb caller 2 ≡ true → runnerOf k < 32) → (wait : ℕ) → E (Semaphores.semaphoreGet k caller s wait)
     get-any n caller runs wait =
         by-place sp p
         (λ z. subst (λ (q : Place). AccountsSteps.Effect q k m (Semaphores.semaphoreGet k caller s wait .status) (Semaphores.semaphoreGet k caller s wait .kernel)) z (AccountsSteps.get-effect k S m s (low6 z) (on6 z) n caller runs wait))
-        (λ away. other-effect (Semaphores.semaphoreGet k caller s wait) (Quiet.semaphore-get-quiet p waits k S s caller runs wait) (get-kept away caller wait) (λ z l. not-on6 away z) (λ z l. absurd (omega (arith, n, l))))
+        (λ away. other-effect (Semaphores.semaphoreGet k caller s wait) (Quiet.semaphore-get-quiet p waits k S s caller runs wait) (AccountsRecords.get-kept p k s away caller wait) (λ z l. not-on6 away z) (λ z l. absurd (omega (arith, n, l))))
 
     put-any : (reason : ℕ) → (eqb (m .number) 19 || eqb (m .number) 20) ≡ true → AccountsSteps.takelessb (m .number) ≡ true → m .number < 22 → ((sp ≡ p → ⊥) → Still.Still p k (guarded k reason (Semaphores.putOn k s) .kernel)) → E (guarded k reason (Semaphores.putOn k s))
     put-any reason t l few still =
         by-place sp p
         (λ z. AccountsSteps.guarded-effect p waits k S m reason (Semaphores.putOn k s)
         (λ w. subst (λ (q : Place). AccountsSteps.Effect q k m (Semaphores.putOn k s .status) (Semaphores.putOn k s .kernel)) z (AccountsSteps.put-effect k S m s (low6 z) (on6 z) t l)))
-        (λ away. other-effect (guarded k reason (Semaphores.putOn k s)) (still away) (put-kept away reason) (λ z l. not-on6 away z) (λ z l. absurd (omega (arith, few, l))))
+        (λ away. other-effect (guarded k reason (Semaphores.putOn k s)) (still away) (AccountsRecords.put-kept p k s away reason) (λ z l. not-on6 away z) (λ z l. absurd (omega (arith, few, l))))
 
   -- ---- pools
   module _ (l : ℕ) (i : l ≡ min (m .a) 4) where
@@ -296,76 +222,62 @@ module _ (p : Place) (waits : 4 < p .state) (k : Kernel) (S : Sound k) (m : Made
       not-on8 : p .state ≡ 8 → m .a ≡ p .number → ⊥
       not-on8 z a = let s = Rolls.pool-small k S (p .number) (made8 z) in let e : l ≡ p .number = omega (arith, s, a, i) in away (λ j. record { state = sym z j; number = e j })
 
-      allocate-kept : (caller wait : ℕ) → Same p k (Pools.blockAllocate k caller l wait .kernel)
-      unfolding Pools.blockAllocate startWait withHeld withScheduler
-      allocate-kept caller wait =
-          kept-guarded p k _ _ (λ e. kept-either p k (ltb 0 (poolAt k l .free)) _ _ (kept-carried p k _ _ _ _ (same-pool p k k l _ away alike)) (untouched-carried p k _ _ _ _ (record { semaphores = refl; pools = refl })))
-
-      release-kept : (block : ℕ) → Same p k (Pools.blockRelease k l block .kernel)
-      unfolding Pools.blockRelease endWait withHeld withScheduler
-      release-kept block =
-          kept-guarded p k _ _ (λ e. kept-either p k (ltb (firstAt (k .scheduler) lp) 32) _ _ (untouched-carried p k _ _ _ _ (record { semaphores = refl; pools = refl })) (kept-carried p k _ _ _ _ (same-pool p k k l _ away alike)))
-
-      pool-delete-kept : (caller : ℕ) → Same p k (Pools.poolDelete k caller l .kernel)
-      unfolding Pools.poolDelete
-      pool-delete-kept caller = kept-guarded p k _ _ (λ e. kept-carried p k _ _ _ _ (same-pool p k _ l _ away (untouched-each k _ _ _)))
-
     -- a pool that is created is not created again
     pool-create-kept : (caller block total : ℕ) → Same p k (Pools.poolCreate k caller l block total .kernel)
     unfolding Pools.poolCreate Refusals.poolCreateRefusal
     pool-create-kept caller block total =
         kept-guarded p k _ _
         (λ e. let new = not-true (poolAt k l .created) (and-right (ltb l 4) _ (unless-none (ltb l 4 && not (poolAt k l .created)) Statuses.poolError (omega arith) (first-none _ _ e))) in
-        kept-carried p k _ _ _ _ (same-pool p k k l _ (λ z. never (ap (λ (n : ℕ). poolAt k n .created) (number8 z) ∙ made8 (state8 z)) new) alike))
+        kept-carried p k _ _ _ _ (same-pool p k k l _ (λ z. never (ap (λ (n : ℕ). poolAt k n .created) (number8 z) ∙ made8 (state8 z)) new) (untouched-self k)))
 
     -- the calls
     allocate-any : m .number ≡ 35 → (caller : ℕ) → (eqb caller 2 ≡ true → runnerOf k < 32) → (wait : ℕ) → E (Pools.blockAllocate k caller l wait)
     allocate-any n caller runs wait =
         by-place lp p
         (λ z. subst (λ (q : Place). AccountsSteps.Effect q k m (Pools.blockAllocate k caller l wait .status) (Pools.blockAllocate k caller l wait .kernel)) z (AccountsSteps.allocate-effect k S m l (low8 z) (on8 z) n caller runs wait))
-        (λ away. other-effect (Pools.blockAllocate k caller l wait) (Quiet.allocate-quiet p waits k S l caller runs wait) (allocate-kept away caller wait) (λ z h. absurd (omega (arith, n, h))) (λ z h. not-on8 away z))
+        (λ away. other-effect (Pools.blockAllocate k caller l wait) (Quiet.allocate-quiet p waits k S l caller runs wait) (AccountsRecords.allocate-kept p k l away caller wait) (λ z h. absurd (omega (arith, n, h))) (λ z h. not-on8 away z))
 
     release-any : m .number ≡ 36 → (block : ℕ) → E (Pools.blockRelease k l block)
     release-any n block =
         by-place lp p
         (λ z. subst (λ (q : Place). AccountsSteps.Effect q k m (Pools.blockRelease k l block .status) (Pools.blockRelease k l block .kernel)) z (AccountsSteps.release-effect k S m l (low8 z) (on8 z) n block))
-        (λ away. other-effect (Pools.blockRelease k l block) (Quiet.release-quiet p waits k S l away block) (release-kept away block) (λ z h. absurd (omega (arith, n, h))) (λ z h. not-on8 away z))
+        (λ away. other-effect (Pools.blockRelease k l block) (Quiet.release-quiet p waits k S l away block) (AccountsRecords.release-kept p k l away block) (λ z h. absurd (omega (arith, n, h))) (λ z h. not-on8 away z))
 
   -- ---- every call, unless it deletes the object
   pub service-effect : (caller : ℕ) → (eqb caller 2 ≡ true → runnerOf k < 32) → (call : Call) (messages : List ℕ) → Numbered (m .number) (m .a) call
       → (deletesb p m ≡ true → service k caller call messages .status ≡ 0 → ⊥) → E (service k caller call messages)
   unfolding service carried Threads.threadCreate Threads.threadDelete Threads.threadReset Threads.threadFinish Threads.threadPriorityChange Threads.threadPreemptionChange Threads.threadStateRead Threads.threadWordsRead Semaphores.semaphoreDelete Semaphores.semaphorePut Semaphores.semaphoreCeilingPut Semaphores.semaphorePrioritize Queues.queueCreate Queues.queuePrioritize Groups.groupCreate Pools.poolDelete Pools.poolPrioritize given withHeld withScheduler withQueue withGroup
   service-effect caller runs (ThreadCreate t pr h start) messages i calm =
-      quiet-effect (service k caller (ThreadCreate t pr h start) messages) (Quiet.create-quiet p waits k S caller (t .0) pr h start) (call-kept _ _ _ _ _ (record { semaphores = refl; pools = refl })) (ap AccountsSteps.plainb (i .0))
+      quiet-effect (service k caller (ThreadCreate t pr h start) messages) (Quiet.create-quiet p waits k S caller (t .0) pr h start) (AccountsRecords.call-fixed p k _ _ _ _ _ refl refl) (ap AccountsSteps.plainb (i .0))
   service-effect caller runs (ThreadDelete t) messages i calm =
-      quiet-effect (service k caller (ThreadDelete t) messages) (Quiet.delete-quiet p waits k S caller (t .0)) (call-kept _ _ _ _ _ (record { semaphores = refl; pools = refl })) (ap AccountsSteps.plainb (i .0))
+      quiet-effect (service k caller (ThreadDelete t) messages) (Quiet.delete-quiet p waits k S caller (t .0)) (AccountsRecords.call-fixed p k _ _ _ _ _ refl refl) (ap AccountsSteps.plainb (i .0))
   service-effect caller runs (ThreadResume t) messages i calm =
-      quiet-effect (service k caller (ThreadResume t) messages) (Quiet.resume-quiet p waits k S (t .0)) (resume-kept (t .0)) (ap AccountsSteps.plainb (i .0))
+      quiet-effect (service k caller (ThreadResume t) messages) (Quiet.resume-quiet p waits k S (t .0)) (AccountsRecords.resume-kept p k (t .0)) (ap AccountsSteps.plainb (i .0))
   service-effect caller runs (ThreadSuspend t) messages i calm =
-      quiet-effect (service k caller (ThreadSuspend t) messages) (Quiet.suspend-quiet p waits k S (t .0)) (suspend-kept (t .0)) (ap AccountsSteps.plainb (i .0))
+      quiet-effect (service k caller (ThreadSuspend t) messages) (Quiet.suspend-quiet p waits k S (t .0)) (AccountsRecords.suspend-kept p k (t .0)) (ap AccountsSteps.plainb (i .0))
   service-effect caller runs (ThreadTerminate t) messages i calm = terminate-effect caller (t .0) (i .0)
   service-effect caller runs (ThreadReset t) messages i calm =
-      quiet-effect (service k caller (ThreadReset t) messages) (Quiet.reset-quiet p waits k S caller (t .0)) (call-kept _ _ _ _ _ (record { semaphores = refl; pools = refl })) (ap AccountsSteps.plainb (i .0))
+      quiet-effect (service k caller (ThreadReset t) messages) (Quiet.reset-quiet p waits k S caller (t .0)) (AccountsRecords.call-fixed p k _ _ _ _ _ refl refl) (ap AccountsSteps.plainb (i .0))
   service-effect caller runs ThreadFinish messages i calm =
-      quiet-effect (service k caller ThreadFinish messages) (Quiet.finish-quiet p waits k S caller runs) (call-kept _ _ _ _ _ (record { semaphores = refl; pools = refl })) (ap AccountsSteps.plainb i)
+      quiet-effect (service k caller ThreadFinish messages) (Quiet.finish-quiet p waits k S caller runs) (AccountsRecords.call-fixed p k _ _ _ _ _ refl refl) (ap AccountsSteps.plainb i)
   service-effect caller runs ThreadRelinquish messages i calm =
-      quiet-effect (service k caller ThreadRelinquish messages) (Quiet.relinquish-quiet p waits k S caller runs) (relinquish-kept caller) (ap AccountsSteps.plainb i)
+      quiet-effect (service k caller ThreadRelinquish messages) (Quiet.relinquish-quiet p waits k S caller runs) (AccountsRecords.relinquish-kept p k caller) (ap AccountsSteps.plainb i)
   service-effect caller runs (ThreadSleep ticks) messages i calm =
-      quiet-effect (service k caller (ThreadSleep ticks) messages) (Quiet.sleep-quiet p waits k S caller runs ticks) (sleep-kept caller ticks) (ap AccountsSteps.plainb i)
+      quiet-effect (service k caller (ThreadSleep ticks) messages) (Quiet.sleep-quiet p waits k S caller runs ticks) (AccountsRecords.sleep-kept p k caller ticks) (ap AccountsSteps.plainb i)
   service-effect caller runs (ThreadWaitAbort t) messages i calm = abort-effect (t .0) (i .0)
   service-effect caller runs (ThreadPriorityChange t pr) messages i calm =
-      quiet-effect (service k caller (ThreadPriorityChange t pr) messages) (Quiet.priority-quiet p waits k S caller (t .0) pr) (call-kept _ _ _ _ _ (record { semaphores = refl; pools = refl })) (ap AccountsSteps.plainb (i .0))
+      quiet-effect (service k caller (ThreadPriorityChange t pr) messages) (Quiet.priority-quiet p waits k S caller (t .0) pr) (AccountsRecords.call-fixed p k _ _ _ _ _ refl refl) (ap AccountsSteps.plainb (i .0))
   service-effect caller runs (ThreadPreemptionChange t h) messages i calm =
-      quiet-effect (service k caller (ThreadPreemptionChange t h) messages) (Quiet.preemption-quiet p waits k S caller (t .0) h) (call-kept _ _ _ _ _ (record { semaphores = refl; pools = refl })) (ap AccountsSteps.plainb (i .0))
+      quiet-effect (service k caller (ThreadPreemptionChange t h) messages) (Quiet.preemption-quiet p waits k S caller (t .0) h) (AccountsRecords.call-fixed p k _ _ _ _ _ refl refl) (ap AccountsSteps.plainb (i .0))
   service-effect caller runs TimeGet messages i calm = time-effect i
   service-effect caller runs (TimeSet time) messages i calm =
-      quiet-effect (service k caller (TimeSet time) messages) (Quiet.clock-quiet p waits k S time) (clock-kept time) (ap AccountsSteps.plainb i)
+      quiet-effect (service k caller (TimeSet time) messages) (Quiet.clock-quiet p waits k S time) (AccountsRecords.clock-kept p k time) (ap AccountsSteps.plainb i)
   service-effect caller runs Tick messages i calm = tick-effect caller i
   service-effect caller runs (SemaphoreCreate s count) messages i calm =
       quiet-effect (service k caller (SemaphoreCreate s count) messages) (Quiet.semaphore-create-quiet p waits k S (s .0) caller count) (create-kept (s .0) (i .1) caller count) (ap AccountsSteps.plainb (i .0))
   service-effect caller runs (SemaphoreDelete s) messages i calm =
       delete-effect (Semaphores.semaphorePlace (s .0)) _ _ refl (λ z. deletes-semaphore (s .0) (i .1) z (i .0))
-      (λ away. quiet-effect (service k caller (SemaphoreDelete s) messages) (Quiet.semaphore-delete-quiet p waits k S (s .0) away caller) (delete-kept (s .0) (i .1) away caller) (ap AccountsSteps.plainb (i .0))) calm
+      (λ away. quiet-effect (service k caller (SemaphoreDelete s) messages) (Quiet.semaphore-delete-quiet p waits k S (s .0) away caller) (AccountsRecords.delete-kept p k (s .0) away caller) (ap AccountsSteps.plainb (i .0))) calm
   service-effect caller runs (SemaphoreGet s wait) messages i calm = get-any (s .0) (i .1) (i .0) caller runs wait
   service-effect caller runs (SemaphorePut s) messages i calm =
       put-any (s .0) (i .1) (Refusals.semaphoreRefusal (semaphoreAt k (s .0))) (ap (λ (x : ℕ). eqb x 19 || eqb x 20) (i .0)) (ap AccountsSteps.takelessb (i .0)) (let n = i .0 in omega (arith, n)) (Quiet.semaphore-put-quiet p waits k S (s .0))
@@ -373,36 +285,36 @@ module _ (p : Place) (waits : 4 < p .state) (k : Kernel) (S : Sound k) (m : Made
       put-any (s .0) (i .1) (Refusals.ceilingRefusal (semaphoreAt k (s .0)) ceiling) (ap (λ (x : ℕ). eqb x 19 || eqb x 20) (i .0)) (ap AccountsSteps.takelessb (i .0)) (let n = i .0 in omega (arith, n)) (λ away. Quiet.ceiling-put-quiet p waits k S (s .0) away ceiling)
   service-effect caller runs (SemaphorePrioritize s) messages i calm = prioritise-effect _ _ _ _ _ (ap AccountsSteps.plainb (i .0))
   service-effect caller runs (QueueCreate q words storage) messages i calm =
-      quiet-effect (service k caller (QueueCreate q words storage) messages) (Quiet.queue-create-quiet p waits k S (q .0) caller words storage) (call-kept _ _ _ _ _ (record { semaphores = refl; pools = refl })) (ap AccountsSteps.plainb (i .0))
+      quiet-effect (service k caller (QueueCreate q words storage) messages) (Quiet.queue-create-quiet p waits k S (q .0) caller words storage) (AccountsRecords.call-fixed p k _ _ _ _ _ refl refl) (ap AccountsSteps.plainb (i .0))
   service-effect caller runs (QueueDelete q) messages i calm =
-      quiet-effect (service k caller (QueueDelete q) messages) (Quiet.queue-delete-quiet p waits k S (q .0) (no-queue (q .0)) caller) (queue-delete-kept caller (q .0)) (ap AccountsSteps.plainb (i .0))
+      quiet-effect (service k caller (QueueDelete q) messages) (Quiet.queue-delete-quiet p waits k S (q .0) (no-queue (q .0)) caller) (AccountsRecords.queue-delete-kept p k caller (q .0)) (ap AccountsSteps.plainb (i .0))
   service-effect caller runs (QueueSend q wait index) messages i calm =
-      quiet-effect (service k caller (QueueSend q wait index) messages) (Quiet.queue-send-quiet p waits k S (q .0) (no-queue (q .0)) caller runs wait index false messages) (send-kept caller (q .0) wait index false messages) (ap AccountsSteps.plainb (i .0))
+      quiet-effect (service k caller (QueueSend q wait index) messages) (Quiet.queue-send-quiet p waits k S (q .0) (no-queue (q .0)) caller runs wait index false messages) (AccountsRecords.send-kept p k caller (q .0) wait index false messages) (ap AccountsSteps.plainb (i .0))
   service-effect caller runs (QueueFrontSend q wait index) messages i calm =
-      quiet-effect (service k caller (QueueFrontSend q wait index) messages) (Quiet.queue-send-quiet p waits k S (q .0) (no-queue (q .0)) caller runs wait index true messages) (send-kept caller (q .0) wait index true messages) (ap AccountsSteps.plainb (i .0))
+      quiet-effect (service k caller (QueueFrontSend q wait index) messages) (Quiet.queue-send-quiet p waits k S (q .0) (no-queue (q .0)) caller runs wait index true messages) (AccountsRecords.send-kept p k caller (q .0) wait index true messages) (ap AccountsSteps.plainb (i .0))
   service-effect caller runs (QueueReceive q wait) messages i calm =
-      quiet-effect (service k caller (QueueReceive q wait) messages) (Quiet.queue-receive-quiet p waits k S (q .0) caller runs wait (λ z. no-queue (q .0))) (receive-kept caller (q .0) wait) (ap AccountsSteps.plainb (i .0))
+      quiet-effect (service k caller (QueueReceive q wait) messages) (Quiet.queue-receive-quiet p waits k S (q .0) caller runs wait (λ z. no-queue (q .0))) (AccountsRecords.receive-kept p k caller (q .0) wait) (ap AccountsSteps.plainb (i .0))
   service-effect caller runs (QueueFlush q) messages i calm =
-      quiet-effect (service k caller (QueueFlush q) messages) (Quiet.queue-flush-quiet p waits k S (q .0) (λ z. no-queue (q .0))) (flush-kept (q .0)) (ap AccountsSteps.plainb (i .0))
+      quiet-effect (service k caller (QueueFlush q) messages) (Quiet.queue-flush-quiet p waits k S (q .0) (λ z. no-queue (q .0))) (AccountsRecords.flush-kept p k (q .0)) (ap AccountsSteps.plainb (i .0))
   service-effect caller runs (QueuePrioritize q) messages i calm =
-      quiet-effect (service k caller (QueuePrioritize q) messages) (Quiet.queue-prioritize-quiet p waits k S (q .0) (no-queue (q .0))) (call-kept _ _ _ _ _ (record { semaphores = refl; pools = refl })) (ap AccountsSteps.plainb (i .0))
+      quiet-effect (service k caller (QueuePrioritize q) messages) (Quiet.queue-prioritize-quiet p waits k S (q .0) (no-queue (q .0))) (AccountsRecords.call-fixed p k _ _ _ _ _ refl refl) (ap AccountsSteps.plainb (i .0))
   service-effect caller runs (EventFlagsCreate g) messages i calm =
-      quiet-effect (service k caller (EventFlagsCreate g) messages) (Quiet.group-create-quiet p waits k S (g .0) (no-group (g .0)) caller) (call-kept _ _ _ _ _ (record { semaphores = refl; pools = refl })) (ap AccountsSteps.plainb (i .0))
+      quiet-effect (service k caller (EventFlagsCreate g) messages) (Quiet.group-create-quiet p waits k S (g .0) (no-group (g .0)) caller) (AccountsRecords.call-fixed p k _ _ _ _ _ refl refl) (ap AccountsSteps.plainb (i .0))
   service-effect caller runs (EventFlagsDelete g) messages i calm =
-      quiet-effect (service k caller (EventFlagsDelete g) messages) (Quiet.group-delete-quiet p waits k S (g .0) (no-group (g .0)) caller) (group-delete-kept caller (g .0)) (ap AccountsSteps.plainb (i .0))
+      quiet-effect (service k caller (EventFlagsDelete g) messages) (Quiet.group-delete-quiet p waits k S (g .0) (no-group (g .0)) caller) (AccountsRecords.group-delete-kept p k caller (g .0)) (ap AccountsSteps.plainb (i .0))
   service-effect caller runs (EventFlagsSet g flags option) messages i calm =
-      quiet-effect (service k caller (EventFlagsSet g flags option) messages) (Quiet.group-set-quiet p waits k S (g .0) (no-group (g .0)) flags option) (set-kept (g .0) flags option) (ap AccountsSteps.plainb (i .0))
+      quiet-effect (service k caller (EventFlagsSet g flags option) messages) (Quiet.group-set-quiet p waits k S (g .0) (no-group (g .0)) flags option) (AccountsRecords.set-kept p k (g .0) flags option) (ap AccountsSteps.plainb (i .0))
   service-effect caller runs (EventFlagsGet g request option wait) messages i calm =
-      quiet-effect (service k caller (EventFlagsGet g request option wait) messages) (Quiet.group-get-quiet p waits k S (g .0) (no-group (g .0)) caller runs request option wait) (group-get-kept caller (g .0) request option wait) (ap AccountsSteps.plainb (i .0))
+      quiet-effect (service k caller (EventFlagsGet g request option wait) messages) (Quiet.group-get-quiet p waits k S (g .0) (no-group (g .0)) caller runs request option wait) (AccountsRecords.group-get-kept p k caller (g .0) request option wait) (ap AccountsSteps.plainb (i .0))
   service-effect caller runs (BlockPoolCreate l block total) messages i calm =
       quiet-effect (service k caller (BlockPoolCreate l block total) messages) (Quiet.pool-create-quiet p waits k S (l .0) caller block total) (pool-create-kept (l .0) (i .1) caller block total) (ap AccountsSteps.plainb (i .0))
   service-effect caller runs (BlockPoolDelete l) messages i calm =
       delete-effect (Pools.poolPlace (l .0)) _ _ refl (λ z. deletes-pool (l .0) (i .1) z (i .0))
-      (λ away. quiet-effect (service k caller (BlockPoolDelete l) messages) (Quiet.pool-delete-quiet p waits k S (l .0) away caller) (pool-delete-kept (l .0) (i .1) away caller) (ap AccountsSteps.plainb (i .0))) calm
+      (λ away. quiet-effect (service k caller (BlockPoolDelete l) messages) (Quiet.pool-delete-quiet p waits k S (l .0) away caller) (AccountsRecords.pool-delete-kept p k (l .0) away caller) (ap AccountsSteps.plainb (i .0))) calm
   service-effect caller runs (BlockAllocate l wait) messages i calm = allocate-any (l .0) (i .1) (i .0) caller runs wait
   service-effect caller runs (BlockRelease l block) messages i calm = release-any (l .0) (i .1) (i .0) block
   service-effect caller runs (BlockPoolPrioritize l) messages i calm = prioritise-effect _ _ _ _ _ (ap AccountsSteps.plainb (i .0))
   service-effect caller runs (ThreadStateRead t) messages i calm =
-      quiet-effect (service k caller (ThreadStateRead t) messages) (Quiet.same-quiet p waits k S k (Still.still-same p k T) _ _ _) (call-kept _ k _ _ _ alike) (ap AccountsSteps.plainb (i .0))
+      quiet-effect (service k caller (ThreadStateRead t) messages) (Quiet.same-quiet p waits k S k (Still.still-same p k T) _ _ _) (AccountsRecords.call-fixed p k _ k _ _ _ refl refl) (ap AccountsSteps.plainb (i .0))
   service-effect caller runs (ThreadWordsRead t) messages i calm =
-      quiet-effect (service k caller (ThreadWordsRead t) messages) (Quiet.same-quiet p waits k S k (Still.still-same p k T) _ _ _) (call-kept _ k _ _ _ alike) (ap AccountsSteps.plainb (i .0))
+      quiet-effect (service k caller (ThreadWordsRead t) messages) (Quiet.same-quiet p waits k S k (Still.still-same p k T) _ _ _) (AccountsRecords.call-fixed p k _ k _ _ _ refl refl) (ap AccountsSteps.plainb (i .0))
