@@ -23,7 +23,7 @@ use Rattle.claims.specs.Lists.{Made, answer, next, after}
 use Rattle.claims.specs.Rolls.{onb, takesb, doneb, gave}
 
 -- ---- who is served
--- a thread that waited is served: it holds 0x00, and not because it was terminated, which clears what a thread holds
+-- a thread that waited is served: it holds 0x00 and is not finished, since terminate clears what a thread holds
 unfoldable pub servedb : Kernel → ℕ → Bool
 servedb x t = eqb (heldAt x t .status) Statuses.success && not (finishedb (threadOf x t))
 
