@@ -93,7 +93,7 @@ module _ (n : ℕ) (k : Kernel) (m : Made) (status : ℕ) (x : Kernel) (made : s
       record { created = ap (λ (y : Semaphore). y .created) e; enough = omega (arith, g, t, l); count = omega (arith, g, t, l, c, low) }
 
 semaphore-from : (n : ℕ) (ms : List Made) (k : Kernel) → Sound k → semaphoreAt k n .created ≡ true → semaphoreAt k n .count < 4294967296 → Undeleted (semaphorePlace n) k ms → SemaphoreAccount n (semaphoreAt k n .count) k ms
-unfolding served servedLater gave after doneb next
+unfolding served servedLater gave after doneb
 semaphore-from n [] k S made low u = record { enough = omega arith; count = omega (arith, low) }
 semaphore-from n (m ∷ ms) k S made low u =
     let one = counted n k m (answer k m .status) (next k m) made low (next-effect (semaphorePlace n) (omega arith) (λ z. omega (arith, z)) (λ z. omega (arith, z)) k S m (λ z. made) (λ z. absurd (omega (arith, z))) (u .0)) in
@@ -157,7 +157,7 @@ module _ (n : ℕ) (k : Kernel) (S : Sound k) (m : Made) (status : ℕ) (x : Ker
       changed (withFree (poolAt k n) b) (r .pool refl .2) (Records.with-alike (poolAt k n) b) (Records.listing-slots (poolAt k n) _) (omega (arith, g, t, l)) (omega (arith, g, t, l, f))
 
 pool-from : (n : ℕ) (ms : List Made) (k : Kernel) → Sound k → poolAt k n .created ≡ true → length (poolAt k n .list) ≡ 64 → Undeleted (poolPlace n) k ms → PoolAccount n (poolAt k n .free) k ms
-unfolding served servedLater gave after doneb next
+unfolding served servedLater gave after doneb
 pool-from n [] k S made slots u = record { enough = omega arith; free = omega arith; listed = Records.fit-length (poolAt k n) (pool-fit n k S made) made slots; total = refl }
 pool-from n (m ∷ ms) k S made slots u =
     let one = booked n k S m (answer k m .status) (next k m) made slots (next-effect (poolPlace n) (omega arith) (λ z. omega (arith, z)) (λ z. omega (arith, z)) k S m (λ z. absurd (omega (arith, z))) (λ z. made) (u .0)) in
