@@ -10,3 +10,8 @@ pub mod Counts
 pub mod Serving
 pub mod Claims
 pub mod Cases
+pub mod AccountsServed
+pub mod AccountsRecords
+pub mod AccountsSteps
+pub mod AccountsServices
+pub mod Accounts

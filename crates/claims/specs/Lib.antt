@@ -1,3 +1,4 @@
 pub mod Lists
 pub mod Rolls
 pub mod Cases
+pub mod Accounts

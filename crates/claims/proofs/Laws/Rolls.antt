@@ -47,6 +47,22 @@ use Rattle.claims.proofs.Laws.Decoded.{Is, decoded-is}
 use Rattle.claims.proofs.Laws.Steps
 use Rattle.claims.proofs.Laws.Services
 
+-- ---- a created object is in its table
+module _ (k : Kernel) (S : Sound k) (n : ℕ) where
+  pub semaphore-small : semaphoreAt k n .created ≡ true → n < 16
+  unfolding semaphoreAt noSemaphore
+  semaphore-small e =
+      by-test (ltb n 16)
+      (λ w. ltb-true n 16 w)
+      (λ w. never e (ap (λ (x : Semaphore). x .created) (List·getD-eq-default (k .semaphores) noSemaphore (let o = ltb-false n 16 w in let l = S .semaphoresSized in omega (arith, o, l)))))
+
+  pub pool-small : poolAt k n .created ≡ true → n < 4
+  unfolding poolAt noPool
+  pool-small e =
+      by-test (ltb n 4)
+      (λ w. ltb-true n 4 w)
+      (λ w. never e (ap (λ (x : Pool). x .created) (List·getD-eq-default (k .pools) noPool (let o = ltb-false n 4 w in let l = S .poolsSized in omega (arith, o, l)))))
+
 -- ---- what sound tables say of an object on which somebody waits
 module _ (p : Place) (k : Kernel) (S : Sound k) (t : ℕ) (here : 0 < count t (lineAt (k .scheduler) p)) where
   abbrev F : Keeps.Fit k
@@ -92,25 +108,13 @@ module _ (p : Place) (k : Kernel) (S : Sound k) (t : ℕ) (here : 0 < count t (l
       ap (λ (n : ℕ). poolWaitb (poolAt k n)) (sym (object-is 8 z (omega arith)))
       ∙ implies-out (waitsOnb 8 (threadOf k t)) (poolWaitb (poolAt k (threadOf k t .object))) (Keeps.asked k (threadOf k t) (heldAt k t) (F .waits t small) .3) (Keeps.in-state 8 (threadOf k t) made (state-is ∙ z))
 
-  pub pool-made : p .state ≡ 8 → poolAt k (p .number) .created ≡ true
-  unfolding poolWaitb
-  pool-made z = and-left (poolAt k (p .number) .created) _ (pool-waits z)
-
   pub pool-low : p .state ≡ 8 → p .number < 4
-  unfolding poolAt noPool
-  pool-low z =
-      by-test (ltb (p .number) 4)
-      (λ w. ltb-true (p .number) 4 w)
-      (λ w. never (pool-made z)
-      (ap (λ (x : Pool). x .created) (List·getD-eq-default (k .pools) noPool (let o = ltb-false (p .number) 4 w in let e = F .poolsSized in omega (arith, o, e)))))
+  unfolding poolWaitb
+  pool-low z = pool-small k S (p .number) (and-left (poolAt k (p .number) .created) _ (pool-waits z))
 
   pub semaphore-low : p .state ≡ 6 → p .number < 16
-  unfolding semaphoreWaitb semaphoreAt noSemaphore
-  semaphore-low z =
-      by-test (ltb (p .number) 16)
-      (λ w. ltb-true (p .number) 16 w)
-      (λ w. never (and-left (semaphoreAt k (p .number) .created) (eqb (semaphoreAt k (p .number) .count) 0) (semaphore-waits z))
-      (ap (λ (x : Semaphore). x .created) (List·getD-eq-default (k .semaphores) noSemaphore (let o = ltb-false (p .number) 16 w in let e = F .semaphoresSized in omega (arith, o, e)))))
+  unfolding semaphoreWaitb
+  semaphore-low z = semaphore-small k S (p .number) (and-left (semaphoreAt k (p .number) .created) _ (semaphore-waits z))
 
   queue-made : p .state ≡ 5 → queueAt k (p .number) .created ≡ true
   unfolding queueWaitb
@@ -154,6 +158,20 @@ object-waits p o =
     (λ f. let z = eqb-true (p .state) 8 (or-rest (eqb (p .state) 6 || eqb (p .state) 5) (eqb (p .state) 8) o (ap (λ (b : Bool). b || eqb (p .state) 5) e ∙ f)) in (omega (arith, z), λ y. omega (arith, z, y))))
 
 -- ---- one call
+-- its step
+abbrev pub stepped : Kernel → Made → Outcome
+stepped k m = General.step k (m .number) (m .caller) (m .a) (m .b) (m .c) (m .d) (m .messages)
+
+module _ (k : Kernel) (S : Sound k) (m : Made) where
+  -- on sound tables the general call is the step
+  pub answer-is : answer k m ≡ answerOf (stepped k m)
+  unfolding answer General.call
+  answer-is = ap (λ (b : Bool). if b then answerOf (stepped k m) else General.unsound k) (passes k S)
+
+  pub next-sound : Sound (next k m)
+  unfolding next answerOf
+  next-sound = subst (λ (x : Answer). Sound (x .kernel)) (sym answer-is) (claims .stepSound k S (m .number) (m .caller) (m .a) (m .b) (m .c) (m .d) (m .messages))
+
 -- the thread's wait lasts
 pub record Lasts (p : Place) (t : ℕ) (k : Kernel) (r : List Entry) : Type 0 where
   pub sound : Sound k
@@ -184,27 +202,18 @@ module _ (p : Place) (o : objectb p ≡ true) (t : ℕ) (k : Kernel) (m : Made) 
       (λ u w. calm u (ap (λ (b : Bool). (if b then refused k Statuses.nobodyRuns else General.service k caller call messages) .status) z ∙ w)))
   record-ok caller Unknown messages i calm = Steps.refused-ok p waits k S m e es (L .rolls) Statuses.unknownCall refl
 
-  abbrev pub out : Outcome
-  out = General.step k (m .number) (m .caller) (m .a) (m .b) (m .c) (m .d) (m .messages)
-
-  -- on sound tables the general call is the step
-  pub answer-is : answer k m ≡ answerOf out
-  unfolding answer General.call
-  answer-is = ap (λ (b : Bool). if b then answerOf out else General.unsound k) (passes k S)
+  abbrev out : Outcome
+  out = stepped k m
 
   step-ok : (upsetsb p m && doneb (answer k m)) ≡ false → Ok out
   unfolding General.step doneb answerOf
   step-ok calm =
       record-ok (m .caller) (decoded (m .number) (m .caller) (m .a) (m .b) (m .c) (m .d)) (m .messages) (decoded-is (m .number) (m .caller) (m .a) (m .b) (m .c) (m .d))
-      (λ u w. never (and-in (upsetsb p m) (doneb (answer k m)) u (ap doneb answer-is ∙ eq-eqb (out .status) 0 w)) calm)
+      (λ u w. never (and-in (upsetsb p m) (doneb (answer k m)) u (ap doneb (answer-is k S m) ∙ eq-eqb (out .status) 0 w)) calm)
 
   pub next-goes : (upsetsb p m && doneb (answer k m)) ≡ false → Members.Goes p k (next k m) (e ∷ es) (rolled p m (answer k m) (e ∷ es))
   unfolding next rolled doneb answerOf
-  next-goes calm = subst (λ (x : Answer). Members.Goes p k (x .kernel) (e ∷ es) (if eqb (x .status) 0 then struck p m (e ∷ es) else (e ∷ es))) (sym answer-is) (step-ok calm)
-
-  pub next-sound : Sound (next k m)
-  unfolding next answerOf
-  next-sound = subst (λ (x : Answer). Sound (x .kernel)) (sym answer-is) (claims .stepSound k S (m .number) (m .caller) (m .a) (m .b) (m .c) (m .d) (m .messages))
+  next-goes calm = subst (λ (x : Answer). Members.Goes p k (x .kernel) (e ∷ es) (if eqb (x .status) 0 then struck p m (e ∷ es) else (e ∷ es))) (sym (answer-is k S m)) (step-ok calm)
 
   pub kept : (upsetsb p m && doneb (answer k m)) ≡ false → Kept p m (e ∷ es) (answer k m)
   unfolding next
@@ -216,7 +225,7 @@ module _ (p : Place) (o : objectb p ≡ true) (t : ℕ) (k : Kernel) (m : Made) 
   next-lasts calm w =
       let g = next-goes calm in
       let c = ltb-true 0 (count t (names (rolled p m (answer k m) (e ∷ es)))) w in
-      record { sound = next-sound; rolls = g .rolls; stands = c; receives = λ z. ap (λ (h : Held). h .sending) (g .held t c) ∙ L .receives z }
+      record { sound = next-sound k S m; rolls = g .rolls; stands = c; receives = λ z. ap (λ (h : Held). h .sending) (g .held t c) ∙ L .receives z }
 
 -- ---- every list of calls
 kept-all : (p : Place) → objectb p ≡ true → (t : ℕ) (ms : List Made) (k : Kernel) (r : List Entry) → Lasts p t k r → Calm p k ms → KeptAll p t k r ms

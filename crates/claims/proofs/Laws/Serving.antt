@@ -42,11 +42,11 @@ use Rattle.claims.proofs.Laws.Rolls
 
 -- ---- a property of outcomes that every refusal has
 module _ (k : Kernel) (P : Outcome → Type 0) (ref : (s : ℕ) → eqb s 0 ≡ false → P (refused k s)) where
-  guarded-by : (reason : ℕ) (o : Outcome) → P o → P (guarded k reason o)
+  pub guarded-by : (reason : ℕ) (o : Outcome) → (reason ≡ 0 → P o) → P (guarded k reason o)
   unfolding guarded
-  guarded-by reason o f = by-choice P (eqb reason 0) o (refused k reason) (λ z. f) (λ z. ref reason z)
+  guarded-by reason o f = by-choice P (eqb reason 0) o (refused k reason) (λ z. f (eqb-true reason 0 z)) (λ z. ref reason z)
 
-  known-by : (caller : ℕ) (call : Call) (messages : List ℕ) → P (General.service k caller call messages) → P (General.byRecord k caller (if ltb 2 caller then Unknown else Known call) messages)
+  pub known-by : (caller : ℕ) (call : Call) (messages : List ℕ) → P (General.service k caller call messages) → P (General.byRecord k caller (if ltb 2 caller then Unknown else Known call) messages)
   unfolding General.byRecord General.byCaller
   known-by caller call messages f =
       by-choice (λ (d : Decoded). P (General.byRecord k caller d messages)) (ltb 2 caller) Unknown (Known call)
@@ -68,24 +68,24 @@ module _ (k : Kernel) (caller a b c d : ℕ) (messages : List ℕ) where
   get-undone z =
       known-by k Undone (refused-undone k) caller (SemaphoreGet (semaphoreNumber a) b) messages
       (guarded-by k Undone (refused-undone k) _ _
-      (by-choice Undone (ltb 0 (semaphoreAt k (min a 16) .count)) _ _ (λ w. absurd (let l = ltb-true 0 (semaphoreAt k (min a 16) .count) w in omega (arith, l, z))) (λ w. refl)))
+      (λ r. by-choice Undone (ltb 0 (semaphoreAt k (min a 16) .count)) _ _ (λ w. absurd (let l = ltb-true 0 (semaphoreAt k (min a 16) .count) w in omega (arith, l, z))) (λ w. refl)))
 
   receive-undone : emptyb (queueAt k (min a 8)) ≡ true → Undone (General.step k 26 caller a b c d messages)
   unfolding General.step General.service decoded knownCall Queues.queueReceive Queues.receiveFrom carried
   receive-undone z =
       known-by k Undone (refused-undone k) caller (QueueReceive (queueNumber a) b) messages
       (guarded-by k Undone (refused-undone k) _ _
-      (by-choice Undone (emptyb (queueAt k (min a 8))) _ _ (λ w. refl) (λ w. never z w)))
+      (λ r. by-choice Undone (emptyb (queueAt k (min a 8))) _ _ (λ w. refl) (λ w. never z w)))
 
   allocate-undone : poolAt k (min a 4) .free ≡ 0 → Undone (General.step k 35 caller a b c d messages)
   unfolding General.step General.service decoded knownCall Pools.blockAllocate carried
   allocate-undone z =
       known-by k Undone (refused-undone k) caller (BlockAllocate (poolNumber a) b) messages
       (guarded-by k Undone (refused-undone k) _ _
-      (by-choice Undone (ltb 0 (poolAt k (min a 4) .free)) _ _ (λ w. absurd (let l = ltb-true 0 (poolAt k (min a 4) .free) w in omega (arith, l, z))) (λ w. refl)))
+      (λ r. by-choice Undone (ltb 0 (poolAt k (min a 4) .free)) _ _ (λ w. absurd (let l = ltb-true 0 (poolAt k (min a 4) .free) w in omega (arith, l, z))) (λ w. refl)))
 
 -- which taking call it is
-takes-by : {P : Type 0} (p : Place) (m : Made) → takesb p m ≡ true → (p .state ≡ 6 → m .number ≡ 18 → P) → (p .state ≡ 5 → m .number ≡ 26 → P) → (p .state ≡ 8 → m .number ≡ 35 → P) → P
+pub takes-by : {P : Type 0} (p : Place) (m : Made) → takesb p m ≡ true → (p .state ≡ 6 → m .number ≡ 18 → P) → (p .state ≡ 5 → m .number ≡ 26 → P) → (p .state ≡ 8 → m .number ≡ 35 → P) → P
 unfolding takesb onb
 takes-by p m g f6 f5 f8 =
     let x = eqb (p .state) 6 && eqb (m .number) 18 in
@@ -99,12 +99,12 @@ takes-by p m g f6 f5 f8 =
     (λ v. let u = or-rest (x || y) z c (ap (λ (q : Bool). q || y) w ∙ v) in
     f8 (eqb-true (p .state) 8 (and-left (eqb (p .state) 8) (eqb (m .number) 35) u)) (eqb-true (m .number) 35 (and-right (eqb (p .state) 8) (eqb (m .number) 35) u))))
 
-takes-on : (p : Place) (m : Made) → takesb p m ≡ true → m .a ≡ p .number
+pub takes-on : (p : Place) (m : Made) → takesb p m ≡ true → m .a ≡ p .number
 unfolding takesb onb
 takes-on p m g = eqb-true (m .a) (p .number) (and-left (eqb (m .a) (p .number)) _ g)
 
 -- which giving call it is
-gives-by : {P : Type 0} (p : Place) (m : Made) → givesb p m ≡ true → (p .state ≡ 6 → m .number ≡ 19 → P) → (p .state ≡ 6 → m .number ≡ 20 → P)
+pub gives-by : {P : Type 0} (p : Place) (m : Made) → givesb p m ≡ true → (p .state ≡ 6 → m .number ≡ 19 → P) → (p .state ≡ 6 → m .number ≡ 20 → P)
     → (p .state ≡ 5 → m .number ≡ 24 → P) → (p .state ≡ 5 → m .number ≡ 25 → P) → (p .state ≡ 8 → m .number ≡ 36 → P) → P
 unfolding givesb onb
 gives-by p m g f19 f20 f24 f25 f36 =
@@ -160,7 +160,7 @@ module _ (p : Place) (o : objectb p ≡ true) (t : ℕ) (k : Kernel) (m : Made) 
   unfolding doneb answerOf
   none-taken =
       by-test (takesb p m)
-      (λ g. ap (λ (b : Bool). b && doneb (answer k m)) g ∙ ap (λ (x : Answer). eqb (x .status) 0) (Rolls.answer-is p o t k m e es L) ∙ taking-undone g)
+      (λ g. ap (λ (b : Bool). b && doneb (answer k m)) g ∙ ap (λ (x : Answer). eqb (x .status) 0) (Rolls.answer-is k S m) ∙ taking-undone g)
       (λ g. ap (λ (b : Bool). b && doneb (answer k m)) g)
 
   -- ---- giving
@@ -208,7 +208,7 @@ module _ (p : Place) (o : objectb p ≡ true) (t : ℕ) (k : Kernel) (m : Made) 
   unfolding Pools.blockRelease
   release-holds n block z =
       guarded-by k (Holds (oneWord block)) (refused-holds (oneWord block)) _ _
-      (by-choice (Holds (oneWord block)) (ltb (firstAt (k .scheduler) (Pools.poolPlace n)) 32) _ _
+      (λ r. by-choice (Holds (oneWord block)) (ltb (firstAt (k .scheduler) (Pools.poolPlace n)) 32) _ _
       (λ f. end-holds (Pools.poolPlace n) z (oneWord block) _)
       (λ f. never (lt-ltb _ 32 (first-low (Pools.poolPlace n) z)) f))
 
@@ -224,22 +224,22 @@ module _ (p : Place) (o : objectb p ≡ true) (t : ℕ) (k : Kernel) (m : Made) 
 
     put-19 : p .state ≡ 6 → Holds noWords (at 19)
     unfolding General.step General.service decoded knownCall Semaphores.semaphorePut
-    put-19 z = known-by k (Holds noWords) (refused-holds noWords) (m .caller) (SemaphorePut (semaphoreNumber (m .a))) (m .messages) (guarded-by k (Holds noWords) (refused-holds noWords) _ _ (put-holds (min (m .a) 16) (semaphore-there z)))
+    put-19 z = known-by k (Holds noWords) (refused-holds noWords) (m .caller) (SemaphorePut (semaphoreNumber (m .a))) (m .messages) (guarded-by k (Holds noWords) (refused-holds noWords) _ _ (λ r. put-holds (min (m .a) 16) (semaphore-there z)))
 
     put-20 : p .state ≡ 6 → Holds noWords (at 20)
     unfolding General.step General.service decoded knownCall Semaphores.semaphoreCeilingPut
-    put-20 z = known-by k (Holds noWords) (refused-holds noWords) (m .caller) (SemaphoreCeilingPut (semaphoreNumber (m .a)) (m .b)) (m .messages) (guarded-by k (Holds noWords) (refused-holds noWords) _ _ (put-holds (min (m .a) 16) (semaphore-there z)))
+    put-20 z = known-by k (Holds noWords) (refused-holds noWords) (m .caller) (SemaphoreCeilingPut (semaphoreNumber (m .a)) (m .b)) (m .messages) (guarded-by k (Holds noWords) (refused-holds noWords) _ _ (λ r. put-holds (min (m .a) 16) (semaphore-there z)))
 
     abbrev message : List ℕ
     message = messageIn (m .messages) (m .c) (queueAt k (min (m .a) 8) .words)
 
     send-24 : p .state ≡ 5 → Holds message (at 24)
     unfolding General.step General.service decoded knownCall Queues.queueSend
-    send-24 z = known-by k (Holds message) (refused-holds message) (m .caller) (QueueSend (queueNumber (m .a)) (m .b) (m .c)) (m .messages) (guarded-by k (Holds message) (refused-holds message) _ _ (send-holds (min (m .a) 8) (m .b) false message (queue-there z)))
+    send-24 z = known-by k (Holds message) (refused-holds message) (m .caller) (QueueSend (queueNumber (m .a)) (m .b) (m .c)) (m .messages) (guarded-by k (Holds message) (refused-holds message) _ _ (λ r. send-holds (min (m .a) 8) (m .b) false message (queue-there z)))
 
     send-25 : p .state ≡ 5 → Holds message (at 25)
     unfolding General.step General.service decoded knownCall Queues.queueSend
-    send-25 z = known-by k (Holds message) (refused-holds message) (m .caller) (QueueFrontSend (queueNumber (m .a)) (m .b) (m .c)) (m .messages) (guarded-by k (Holds message) (refused-holds message) _ _ (send-holds (min (m .a) 8) (m .b) true message (queue-there z)))
+    send-25 z = known-by k (Holds message) (refused-holds message) (m .caller) (QueueFrontSend (queueNumber (m .a)) (m .b) (m .c)) (m .messages) (guarded-by k (Holds message) (refused-holds message) _ _ (λ r. send-holds (min (m .a) 8) (m .b) true message (queue-there z)))
 
     pool-there : p .state ≡ 8 → Pools.poolPlace (min (m .a) 4) ≡ p
     pool-there z = let l = Rolls.pool-low p k S t here z in let y : min (m .a) 4 ≡ p .number = omega (arith, l, on) in λ j. record { state = sym z j; number = y j }
@@ -279,5 +279,5 @@ module _ (p : Place) (o : objectb p ≡ true) (t : ℕ) (k : Kernel) (m : Made) 
   pub first-holds : givesb p m ≡ true → doneb (answer k m) ≡ true → heldAt (next k m) (e .thread) ≡ holding Statuses.success (givenWords p k m)
   unfolding doneb next answerOf
   first-holds g d =
-      let i = Rolls.answer-is p o t k m e es L in
+      let i = Rolls.answer-is k S m in
       ap (λ (x : Answer). heldAt (x .kernel) (e .thread)) i ∙ giving-holds g (sym (ap (λ (x : Answer). eqb (x .status) 0) i) ∙ d)

@@ -4,8 +4,9 @@ use mathlib.Core.List.{List, [], _∷_, _++_, append-nil, append-assoc}
 use mathlib.Core.Bool.{Bool, true, false, _&&_}
 use Prim.Native.Nat.{ℕ, _<_}
 use native.Mathlib.Omega.{arith}
+use lib.ListN.{length}
 use lib.Dec.{eqb}
-use lib.Seq.{getD-set-other}
+use lib.Seq.{getD-set-same, getD-set-other}
 use borrow.Author.Tests.{eqb-true}
 use Rattle.lines.specs.Logic.{if_then_else_, oneIf}
 use Rattle.lines.specs.Lists.{filter, count, Begins}
@@ -192,6 +193,11 @@ module _ (k : Kernel) (S : Steady (k .scheduler)) (t status : ℕ) (words : List
   pub end-other : (u : ℕ) → (u ≡ t → ⊥) → threadOf (endWait k t status words) u ≡ threadOf k u
   unfolding endWait withHeld withScheduler woken
   end-other u n = Orders.moved-other (k .scheduler) S t (awake (threadOf k t)) small u n
+
+  -- it holds the status and the words
+  pub end-holds : length (k .held) ≡ 32 → heldAt (endWait k t status words) t ≡ holding status words
+  unfolding endWait withHeld withScheduler heldAt
+  end-holds sized = getD-set-same (k .held) t (holding status words) noHeld (let l = small in omega (arith, l, sized))
 
   end-made : (u : ℕ) → threadOf k u .created ≡ true → threadOf (endWait k t status words) u .created ≡ true
   unfolding awake inState

@@ -1,5 +1,5 @@
 -- A tick and the roll: those of the line with a tick left stay in it, in order, and each has one less.
-use mathlib.Core.Path.{_≡_, refl, sym, ap, _∙_}
+use mathlib.Core.Path.{_≡_, refl, sym, ap, ap₂, _∙_}
 use mathlib.Core.List.{List, [], _∷_, _++_}
 use mathlib.Core.Bool.{Bool, true, false, _&&_, not}
 use Prim.Native.Nat.{ℕ, zero, suc, _-_, _<_}
@@ -18,7 +18,8 @@ use Rattle.scheduler.proofs.Laws.Orders
 use Rattle.scheduler.proofs.Laws.Choosing
 use Rattle.scheduler.proofs.Laws.States
 use Rattle.waiting.specs.Ticks.{forever, timedb, lastTickb, withTicks, timeoutStatus}
-use Rattle.calls.specs.Held.{noWords}
+use Rattle.calls.specs.declared.held.Held.{Held}
+use Rattle.calls.specs.Held.{noWords, holding}
 use Rattle.kernel.specs.declared.Kernel.{Kernel}
 use Rattle.kernel.specs.Tables.{threadOf, heldAt, withScheduler, withClock}
 use Rattle.kernel.specs.Answers.{carried}
@@ -117,6 +118,9 @@ module _ (p : Place) (waits : 4 < p .state) (k : Kernel) (F : Keeps.Fit k) where
   stays-before : (n u : ℕ) → (u ≡ n → ⊥) → stays (suc n) u ≡ true → stays n u ≡ true
   stays-before n u q y = sym (ap (λ (b : Bool). not (b && lastTickb (threadOf k u))) (ltb-there u n q)) ∙ y
 
+  out-before : (n u : ℕ) → (u ≡ n → ⊥) → out (suc n) u ≡ true → out n u ≡ true
+  out-before n u q y = sym (ap (λ (b : Bool). b && lastTickb (threadOf k u)) (ltb-there u n q)) ∙ y
+
   none-below : (u : ℕ) → stays 0 u ≡ true
   none-below u = rw (le-ltb u 0 (omega arith))
 
@@ -213,7 +217,7 @@ module _ (p : Place) (waits : 4 < p .state) (k : Kernel) (F : Keeps.Fit k) where
       (λ g. rw (f, g) (t ∙ ticks-later e (w .0) (w .1) (a .0) _ refl (o ∙ rw (f, g)) f, more)))
 
   -- whoever stands at p waits
-  placed-waits : (v : ℕ) → 0 < count v (lineAt (k .scheduler) p) → (v < 32) × (pausedb (threadOf k v) ≡ true)
+  pub placed-waits : (v : ℕ) → 0 < count v (lineAt (k .scheduler) p) → (v < 32) × (pausedb (threadOf k v) ≡ true)
   unfolding oneIf placedb pausedb standsb
   placed-waits v c =
       let th = threadOf k v in
@@ -240,6 +244,29 @@ module _ (p : Place) (waits : 4 < p .state) (k : Kernel) (F : Keeps.Fit k) where
       by-test (timedb (threadOf k n))
       (λ t. ap (λ (w : Kernel). heldAt w u) (is-timed n e t) ∙ held-below n u z)
       (λ t. ap (λ (w : Kernel). heldAt w u) (is-none n e t) ∙ held-below n u z))
+
+  -- whose last tick is taken holds the status of that
+  held-out : (n u : ℕ) → out n u ≡ true → heldAt (at n) u .status ≡ timeoutStatus (threadOf k u) (heldAt k u)
+  unfolding tickBelow withScheduler heldAt holding
+  held-out zero u y = never y (rw (le-ltb u 0 (omega arith)) refl)
+  held-out (suc n) u y =
+      by-test (lastTickb (threadOf k n))
+      (λ e. by-eq u n
+      (λ q. ap (λ (v : ℕ). heldAt (at (suc n)) v .status) q ∙ ap (λ (z : Kernel). heldAt z n .status) (is-last n e) ∙ ap (λ (h : Held). h .status) (Still.end-holds (at n) (fit-at n .steady) n _ noWords (made-last n e) (fit-at n .heldSized))
+      ∙ ap₂ timeoutStatus (untouched n) (held-below n n (rw (le-ltb n n (omega arith)) refl)) ∙ sym (ap (λ (v : ℕ). timeoutStatus (threadOf k v) (heldAt k v)) q))
+      (λ q. ap (λ (z : Kernel). heldAt z u .status) (is-last n e) ∙ ap (λ (h : Held). h .status) (Members.leaves-end p waits (at n) (fit-at n .steady) n _ _ (made-last n e) .held u q) ∙ held-out n u (out-before n u q y)))
+      (λ e. by-eq u n
+      (λ q. never y (ap (λ (v : ℕ). out (suc n) v) q ∙ rw (e, Still.and-no (ltb n (suc n)))))
+      (λ q. let z = out-before n u q y in
+      by-test (timedb (threadOf k n))
+      (λ t. ap (λ (w : Kernel). heldAt w u .status) (is-timed n e t) ∙ held-out n u z)
+      (λ t. ap (λ (w : Kernel). heldAt w u .status) (is-none n e t) ∙ held-out n u z)))
+
+  -- so each holds what it held, or the status of a wait that has run out
+  pub held-ticked : {P : Type 0} (status : ℕ) (words ended : List ℕ) (u : ℕ) → (heldAt (carried (ticked k) status words ended .kernel) u ≡ heldAt k u → P)
+      → (heldAt (carried (ticked k) status words ended .kernel) u .status ≡ timeoutStatus (threadOf k u) (heldAt k u) → P) → P
+  unfolding carried ticked withClock withScheduler heldAt
+  held-ticked status words ended u same over = by-test (out 32 u) (λ y. over (held-out 32 u y)) (λ y. same (held-below 32 u (ap not y)))
 
   thread-all : (v : ℕ) → v < 32 → threadOf (at 32) v ≡ later (threadOf k v)
   thread-all v l = thread-below 32 v ∙ ap (λ (b : Bool). if b then later (threadOf k v) else threadOf k v) (lt-ltb v 32 l)
