@@ -6,7 +6,7 @@ use Rattle.lines.specs.declared.ThreadId.{ThreadId}
 use Rattle.objects.specs.declared.semaphore.SemaphoreId.{SemaphoreId}
 use Rattle.objects.specs.declared.queue.QueueId.{QueueId}
 use Rattle.objects.specs.declared.group.GroupId.{GroupId}
-use Rattle.objects.specs.declared.pool.PoolId.{PoolId}
+use Rattle.blocks.specs.declared.pool.PoolId.{PoolId}
 use Rattle.calls.specs.declared.call.Call.the-variants.{ThreadCreate, ThreadDelete, ThreadResume, ThreadSuspend, ThreadTerminate, ThreadReset, ThreadFinish, ThreadRelinquish, ThreadSleep, ThreadWaitAbort, ThreadPriorityChange, ThreadPreemptionChange, TimeGet, TimeSet, Tick, SemaphoreCreate, SemaphoreDelete, SemaphoreGet, SemaphorePut, SemaphoreCeilingPut, SemaphorePrioritize, QueueCreate, QueueDelete, QueueSend, QueueFrontSend, QueueReceive, QueueFlush, QueuePrioritize, EventFlagsCreate, EventFlagsDelete, EventFlagsSet, EventFlagsGet, BlockPoolCreate, BlockPoolDelete, BlockAllocate, BlockRelease, BlockPoolPrioritize, ThreadStateRead, ThreadWordsRead}
 use Rattle.calls.specs.declared.call.Decoded.{Decoded}
 use Rattle.calls.specs.declared.call.Decoded.the-variants.{Known, Unknown}

@@ -10,8 +10,8 @@ use Rattle.objects.specs.declared.queue.Queue.{Queue}
 use Rattle.objects.specs.declared.group.Group.{Group}
 use Rattle.objects.specs.Queues.{emptyb, roomb, sizesFitb}
 use Rattle.objects.specs.Groups.{metb}
-use Rattle.objects.specs.declared.pool.Pool.{Pool}
-use Rattle.objects.specs.Pools.{blockSizesb, usedb}
+use Rattle.blocks.specs.declared.pool.Pool.{Pool}
+use Rattle.blocks.specs.Pools.{blockSizesb, usedb}
 use Rattle.calls.specs.Calls.{interrupt, thread}
 use Rattle.calls.specs.Statuses
 

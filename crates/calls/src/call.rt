@@ -2,9 +2,9 @@
 ghost use mathlib.Core.Path.{_≡_};
 ghost use Prim.Native.Nat.{min};
 ghost use Rattle.calls.specs.Calls.{decoded};
+use blocks::pool::PoolId;
 use lines::ThreadId;
 use objects::group::GroupId;
-use objects::pool::PoolId;
 use objects::queue::QueueId;
 use objects::semaphore::SemaphoreId;
 

@@ -29,12 +29,12 @@ use super::status::THREAD_ERROR;
 use super::status::THRESH_ERROR;
 use super::status::WAIT_ABORT_ERROR;
 use super::status::WAIT_ERROR;
+use blocks::pool::Pool;
+use blocks::pool::PoolId;
 use lines::ThreadId;
 use objects::group::Group;
 use objects::group::GroupId;
 use objects::group::is_met;
-use objects::pool::Pool;
-use objects::pool::PoolId;
 use objects::queue::Queue;
 use objects::queue::QueueId;
 use objects::queue::sizes_fit;
@@ -350,7 +350,7 @@ pub fn pool_create(n: PoolId, p: Pool, block: u32, total: u32, caller: u32) -> u
     first(
         unless((n.0 < 4) & !p.created, POOL_ERROR),
         first(
-            unless(objects::pool::sizes_fit(block, total), SIZE_ERROR),
+            unless(blocks::pool::sizes_fit(block, total), SIZE_ERROR),
             unless(!(caller == INTERRUPT), CALLER_ERROR),
         ),
     )

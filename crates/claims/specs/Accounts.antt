@@ -11,7 +11,7 @@ use Rattle.lines.specs.Lists.{filter}
 use Rattle.scheduler.specs.declared.thread.Place.{Place}
 use Rattle.scheduler.specs.Threads.{onSemaphore, onBlock}
 use Rattle.scheduler.specs.Orders.{lineAt}
-use Rattle.objects.specs.Pools.{blocksOf, freeBlocks}
+use Rattle.blocks.specs.Pools.{blocksOf, freeBlocks}
 use Rattle.calls.specs.Refusals.{finishedb}
 use Rattle.calls.specs.Statuses as Statuses
 use Rattle.kernel.specs.declared.Kernel.{Kernel}

@@ -7,7 +7,7 @@ use Rattle.lines.specs.Lists.{numbersFrom}
 use Rattle.scheduler.specs.Orders.{lineAt}
 use Rattle.calls.specs.Calls.{startup, interrupt, thread}
 use Rattle.objects.specs.Queues.{capacityOf}
-use Rattle.objects.specs.Pools.{blocksOf}
+use Rattle.blocks.specs.Pools.{blocksOf}
 use Rattle.calls.specs.Held.{oneWord}
 use Rattle.calls.specs.Statuses as Statuses
 use Rattle.waiting.specs.Ticks.{forever}

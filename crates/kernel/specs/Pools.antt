@@ -7,7 +7,7 @@ use Rattle.lines.specs.Logic.{if_then_else_}
 use Rattle.scheduler.specs.declared.thread.Place.{Place}
 use Rattle.scheduler.specs.Threads.{onBlock}
 use Rattle.scheduler.specs.Orders.{lineAt, firstAt, prioritisedAt}
-use Rattle.objects.specs.Pools.{noPool, freshPool, nextBlock, withoutNext, withFree}
+use Rattle.blocks.specs.Pools.{noPool, freshPool, nextBlock, withoutNext, withFree}
 use Rattle.calls.specs.Held.{noWords, oneWord, waiting}
 use Rattle.calls.specs.Statuses as Statuses
 use Rattle.calls.specs.Refusals.{poolCreateRefusal, poolDeleteRefusal, allocateRefusal, releaseRefusal, poolRefusal}

@@ -9,7 +9,7 @@ use Rattle.scheduler.specs.Sound as Scheduling
 use Rattle.objects.specs.Semaphores.{semaphoreFitb}
 use Rattle.objects.specs.Queues.{queueFitb}
 use Rattle.objects.specs.Groups.{groupFitb}
-use Rattle.objects.specs.Pools.{poolFitb}
+use Rattle.blocks.specs.Pools.{poolFitb}
 use Rattle.waiting.specs.Fit.{waitsOnb, heldFitb, queueWaitb, semaphoreWaitb, groupWaitb, poolWaitb, semaphoresFitb, queuesFitb, groupsFitb, poolsFitb}
 use Rattle.kernel.specs.declared.Kernel.{Kernel}
 use Rattle.kernel.specs.Tables.{threadOf, heldAt, semaphoreAt, queueAt, groupAt, poolAt}

@@ -7,11 +7,11 @@ use Rattle.scheduler.specs.Orders as Orders
 use Rattle.objects.specs.declared.semaphore.Semaphore.{Semaphore}
 use Rattle.objects.specs.declared.queue.Queue.{Queue}
 use Rattle.objects.specs.declared.group.Group.{Group}
-use Rattle.objects.specs.declared.pool.Pool.{Pool}
+use Rattle.blocks.specs.declared.pool.Pool.{Pool}
 use Rattle.objects.specs.Semaphores.{noSemaphore}
 use Rattle.objects.specs.Queues.{noQueue}
 use Rattle.objects.specs.Groups.{noGroup}
-use Rattle.objects.specs.Pools.{noPool}
+use Rattle.blocks.specs.Pools.{noPool}
 use Rattle.calls.specs.declared.held.Held.{Held}
 use Rattle.calls.specs.Held.{noHeld}
 use Rattle.kernel.specs.declared.Kernel.{Kernel}

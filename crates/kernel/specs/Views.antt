@@ -2,10 +2,10 @@
 use mathlib.Core.List.{List}
 use Prim.Native.Nat.{ℕ}
 use Rattle.lines.specs.Logic.{if_then_else_}
-use Rattle.objects.specs.declared.pool.Pool.{Pool}
-use Rattle.objects.specs.declared.view.Extent.{Extent}
-use Rattle.objects.specs.Pools.{noPool}
-use Rattle.objects.specs.Views.{extentOf, viewed, written}
+use Rattle.blocks.specs.declared.pool.Pool.{Pool}
+use Rattle.blocks.specs.declared.view.Extent.{Extent}
+use Rattle.blocks.specs.Pools.{noPool}
+use Rattle.blocks.specs.Views.{extentOf, viewed, written}
 use Rattle.kernel.specs.declared.Kernel.{Kernel}
 use Rattle.kernel.specs.Tables.{poolAt}
 use Rattle.kernel.specs.Sound.{soundb}

@@ -1,19 +1,19 @@
 // Block pool services.
 ghost use mathlib.Core.Path.{_≡_};
 ghost use lib.ListN.{getD, set};
-ghost use Rattle.objects.specs.Pools.{noPool};
+ghost use Rattle.blocks.specs.Pools.{noPool};
 ghost use Rattle.kernel.specs.Answers.{answerOf};
 ghost use Rattle.kernel.specs.Pools.{poolPlace, poolCreate, poolDelete, blockAllocate, blockRelease, poolPrioritize};
 use super::Answer;
 use super::Kernel;
 use super::two_words;
+use blocks::pool::Pool;
+use blocks::pool::PoolId;
 use calls::held::Held;
 use calls::refusal;
 use calls::status::DELETED;
 use calls::status::SUCCESS;
 use calls::status::WAITING;
-use objects::pool::Pool;
-use objects::pool::PoolId;
 use scheduler::thread::ON_BLOCK;
 use scheduler::thread::Place;
 

@@ -3,14 +3,14 @@ ghost use mathlib.Core.Path.{_≡_};
 ghost use mathlib.Core.Bool.{true};
 ghost use lib.ListN.{length};
 ghost use denote.Ref.{ptr};
-ghost use Rattle.objects.specs.Pools.{blockStart};
-ghost use Rattle.objects.specs.Views.{viewedb, onwards};
+ghost use Rattle.blocks.specs.Pools.{blockStart};
+ghost use Rattle.blocks.specs.Views.{viewedb, onwards};
 ghost use Rattle.kernel.specs.Views.{viewedPool, blockExtent, blockView, blockWritten};
 use super::Kernel;
 use super::pools::pool_in;
-use objects::pool::Pool;
-use objects::pool::PoolId;
-use objects::view::Extent;
+use blocks::pool::Pool;
+use blocks::pool::PoolId;
+use blocks::view::Extent;
 
 impl Kernel {
     // The record of pool `n`; that of an uncreated one past the table, and where the tables are unsound.

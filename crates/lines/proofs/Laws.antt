@@ -4,3 +4,4 @@ pub mod Bests
 pub mod Lines
 pub mod Tallies
 pub mod Bits
+pub mod Slots

@@ -1,3 +1,4 @@
 pub mod Logic
 pub mod Lists
 pub mod Lines
+pub mod Slots

@@ -6,7 +6,7 @@ use lib.ListN.{take, drop, replicate}
 use lib.Dec.{eqb, ltb, leb}
 use Rattle.lines.specs.Logic.{if_then_else_}
 use Rattle.lines.specs.Lines.{pad}
-use Rattle.objects.specs.Slots.{slots, zeroFrom}
+use Rattle.lines.specs.Slots.{slots, zeroFrom}
 use Rattle.objects.specs.declared.queue.Queue.{Queue}
 
 -- not created: all zero

@@ -1,6 +1,6 @@
 // A message queue: messages of `words` words in a store of `storage` words, the oldest first.
 ghost use mathlib.Core.Path.{_≡_};
-ghost use Rattle.objects.specs.Slots.{zeroFrom};
+ghost use Rattle.lines.specs.Slots.{zeroFrom};
 ghost use mathlib.Core.List.{_++_};
 ghost use Prim.Native.Nat.{_-_, min};
 ghost use lib.ListN.{getD};

@@ -1,11 +1,11 @@
 // Tests of what a thread holds and waits for, and of the tables of objects.
 ghost use mathlib.Core.Path.{_≡_};
 ghost use Rattle.waiting.specs.Fit.{blankFrom, waitsOnb, heldFitb, semaphoreWaitb, queueWaitb, groupWaitb, poolWaitb, semaphoresFitb, queuesFitb, groupsFitb, poolsFitb};
+use blocks::pool::Pool;
 use calls::held::Held;
 use calls::status::WAITING;
 use objects::group::Group;
 use objects::group::is_met;
-use objects::pool::Pool;
 use objects::queue::Queue;
 use objects::semaphore::Semaphore;
 use scheduler::thread::ON_FLAGS;

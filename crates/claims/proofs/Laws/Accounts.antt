@@ -11,9 +11,9 @@ use Rattle.lines.specs.Logic.{if_then_else_}
 use Rattle.lines.proofs.Laws.Logic.{by-choice, never, and-left, and-in}
 use Rattle.scheduler.specs.declared.thread.Place.{Place}
 use Rattle.objects.specs.declared.semaphore.Semaphore.{Semaphore}
-use Rattle.objects.specs.declared.pool.Pool.{Pool}
-use Rattle.objects.specs.Pools.{blocksOf, blockSizesb, poolFitb, listing, freshPool, withoutNext, withFree}
-use Rattle.objects.proofs.Laws.Pools as Records
+use Rattle.blocks.specs.declared.pool.Pool.{Pool}
+use Rattle.blocks.specs.Pools.{blocksOf, blockSizesb, poolFitb, listing, freshPool, withoutNext, withFree}
+use Rattle.blocks.proofs.Laws.Pools as Records
 use Rattle.calls.specs.declared.call.Decoded.{Decoded}
 use Rattle.calls.specs.declared.call.Decoded.the-variants.{Known, Unknown}
 use Rattle.calls.specs.declared.call.Call.the-variants.{SemaphoreCreate, BlockPoolCreate}

@@ -14,9 +14,9 @@ use Rattle.scheduler.specs.declared.thread.Place.{Place}
 use Rattle.scheduler.specs.Threads.{readyb, pausedb}
 use Rattle.scheduler.specs.Orders.{firstAt}
 use Rattle.objects.specs.declared.semaphore.Semaphore.{Semaphore}
-use Rattle.objects.specs.declared.pool.Pool.{Pool}
+use Rattle.blocks.specs.declared.pool.Pool.{Pool}
 use Rattle.objects.specs.Semaphores.{noSemaphore}
-use Rattle.objects.specs.Pools.{noPool}
+use Rattle.blocks.specs.Pools.{noPool}
 use Rattle.objects.specs.Queues.{emptyb, roomb}
 use Rattle.objects.specs.Groups.{metb}
 use Rattle.waiting.specs.Ticks.{timedb, lastTickb}

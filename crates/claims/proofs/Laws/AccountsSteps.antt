@@ -10,7 +10,7 @@ use Rattle.lines.specs.Logic.{oneIf}
 use Rattle.lines.proofs.Laws.Logic.{by-test, by-choice, never}
 use Rattle.scheduler.specs.declared.thread.Place.{Place}
 use Rattle.scheduler.specs.Orders.{firstAt}
-use Rattle.objects.specs.Pools.{usedb, withoutNext, withFree}
+use Rattle.blocks.specs.Pools.{usedb, withoutNext, withFree}
 use Rattle.kernel.specs.declared.Kernel.{Kernel}
 use Rattle.kernel.specs.Tables.{semaphoreAt, poolAt, runnerOf, withScheduler, withHeld}
 use Rattle.kernel.specs.Answers.{Outcome, refused, carried, guarded}

@@ -38,7 +38,7 @@ use Rattle.kernel.proofs.Laws.KeepsLines
 use Rattle.objects.specs.declared.semaphore.Semaphore.{Semaphore}
 use Rattle.objects.specs.declared.queue.Queue.{Queue}
 use Rattle.objects.specs.declared.group.Group.{Group}
-use Rattle.objects.specs.declared.pool.Pool.{Pool}
+use Rattle.blocks.specs.declared.pool.Pool.{Pool}
 use Rattle.objects.specs.Queues.{emptyb, roomb}
 use Rattle.objects.specs.Groups.{metb}
 use Rattle.kernel.specs.Clock as Clock

@@ -19,8 +19,8 @@ use Rattle.scheduler.proofs.Laws.States
 use Rattle.objects.specs.declared.semaphore.Semaphore.{Semaphore}
 use Rattle.objects.specs.declared.queue.Queue.{Queue}
 use Rattle.objects.specs.Semaphores.{noSemaphore}
-use Rattle.objects.specs.declared.pool.Pool.{Pool}
-use Rattle.objects.specs.Pools.{noPool}
+use Rattle.blocks.specs.declared.pool.Pool.{Pool}
+use Rattle.blocks.specs.Pools.{noPool}
 use Rattle.objects.specs.Queues.{noQueue, emptyb, fullb, roomb}
 use Rattle.objects.proofs.Laws.Queues as Records
 use Rattle.calls.specs.declared.held.Held.{Held}

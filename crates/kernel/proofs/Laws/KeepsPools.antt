@@ -10,9 +10,9 @@ use borrow.Author.Tests.{ltb-true, ltb-false, eq-eqb, eqb-true, not-true}
 use Rattle.lines.proofs.Laws.Logic.{by-test, by-choice, never, and-left, and-right, and-in, implies-out}
 use Rattle.scheduler.specs.Threads.{inState}
 use Rattle.scheduler.specs.Orders.{lineAt, firstAt}
-use Rattle.objects.specs.declared.pool.Pool.{Pool}
-use Rattle.objects.specs.Pools.{noPool, freshPool, blockSizesb, usedb, withoutNext, withFree, poolFitb}
-use Rattle.objects.proofs.Laws.Pools as Records
+use Rattle.blocks.specs.declared.pool.Pool.{Pool}
+use Rattle.blocks.specs.Pools.{noPool, freshPool, blockSizesb, usedb, withoutNext, withFree, poolFitb}
+use Rattle.blocks.proofs.Laws.Pools as Records
 use Rattle.calls.specs.Held.{noWords, oneWord, waiting}
 use Rattle.calls.specs.Statuses as Statuses
 use Rattle.calls.specs.Refusals.{unless, firstOf, poolCreateRefusal, poolDeleteRefusal, allocateRefusal, releaseRefusal}

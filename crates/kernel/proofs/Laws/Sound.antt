@@ -19,12 +19,12 @@ use Rattle.scheduler.proofs.Laws.Testing
 use Rattle.objects.specs.declared.semaphore.Semaphore.{Semaphore}
 use Rattle.objects.specs.declared.queue.Queue.{Queue}
 use Rattle.objects.specs.declared.group.Group.{Group}
-use Rattle.objects.specs.declared.pool.Pool.{Pool}
-use Rattle.objects.specs.Slots.{zeroFrom}
+use Rattle.blocks.specs.declared.pool.Pool.{Pool}
+use Rattle.lines.specs.Slots.{zeroFrom}
 use Rattle.objects.specs.Semaphores.{noSemaphore, semaphoreFitb}
 use Rattle.objects.specs.Queues.{noQueue, queueZerob, queueFitb}
 use Rattle.objects.specs.Groups.{noGroup, groupFitb}
-use Rattle.objects.specs.Pools.{noPool, poolZerob, poolFitb}
+use Rattle.blocks.specs.Pools.{noPool, poolZerob, poolFitb}
 use Rattle.calls.specs.declared.held.Held.{Held}
 use Rattle.calls.specs.Held.{holding}
 use Rattle.kernel.specs.declared.Kernel.{Kernel}

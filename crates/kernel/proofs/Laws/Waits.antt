@@ -20,7 +20,7 @@ use Rattle.scheduler.specs.Orders.{threadAt, withThread, withOrder, moved, woke
 use Rattle.objects.specs.declared.semaphore.Semaphore.{Semaphore}
 use Rattle.objects.specs.declared.queue.Queue.{Queue}
 use Rattle.objects.specs.declared.group.Group.{Group}
-use Rattle.objects.specs.declared.pool.Pool.{Pool}
+use Rattle.blocks.specs.declared.pool.Pool.{Pool}
 use Rattle.calls.specs.Held.{noWords}
 use Rattle.kernel.specs.declared.Kernel.{Kernel}
 use Rattle.kernel.specs.Tables.{threadOf, heldAt, withScheduler, withHeld, withSemaphore, withQueue, withGroup, withPool}

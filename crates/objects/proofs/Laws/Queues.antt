@@ -14,9 +14,9 @@ use Rattle.lines.specs.Logic.{allBelow}
 use Rattle.lines.proofs.Laws.Logic.{by-test, by-eq, by-choice, and-left, and-right, and-in}
 use Rattle.lines.proofs.Laws.Lines.{getD-pad}
 use Rattle.objects.specs.declared.queue.Queue.{Queue}
-use Rattle.objects.specs.Slots.{zeroFrom}
+use Rattle.lines.specs.Slots.{zeroFrom}
 use Rattle.objects.specs.Queues.{noQueue, capacityOf, usedWords, sizesFitb, queueLimitsb, storeFitb, queueZerob, queueFitb, emptyb, fullb, roomb, emptyQueue, storedWords, storing, withoutOldest, withLast, withFirst, withSent, leftPast, flushed}
-use Rattle.objects.proofs.Laws.Slots.{none-used, all-zero, zero-in, take-most, drop-most, part}
+use Rattle.lines.proofs.Laws.Slots.{none-used, all-zero, zero-in, take-most, drop-most, part}
 
 pub none-fit : queueFitb noQueue ≡ true
 unfolding queueFitb queueZerob noQueue zeroFrom allBelow

@@ -2,8 +2,8 @@ use mathlib.Core.Path.{_≡_, sym, ap, _∙_}
 use mathlib.Core.Bool.{true, false}
 use borrow.Author.Needs.{needs}
 use lib.Dec.{ltb}
-use Rattle.objects.specs.declared.pool.Pool.{Pool}
-use Rattle.objects.specs.Pools.{nextBlock, withoutNext}
+use Rattle.blocks.specs.declared.pool.Pool.{Pool}
+use Rattle.blocks.specs.Pools.{nextBlock, withoutNext}
 use Rattle.calls.specs.Refusals.{allocateRefusal}
 use Rattle.kernel.specs.Tables.{poolAt, withScheduler, withPool}
 use Rattle.kernel.specs.Answers.{answerOf, refused, carried, answered}

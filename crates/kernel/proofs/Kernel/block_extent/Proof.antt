@@ -1,7 +1,7 @@
 use mathlib.Core.Path.{ap, _∙_}
 use borrow.Author.Needs.{needs}
-use Rattle.objects.specs.declared.pool.Pool.{Pool}
-use Rattle.objects.specs.Views.{extentOf}
+use Rattle.blocks.specs.declared.pool.Pool.{Pool}
+use Rattle.blocks.specs.Views.{extentOf}
 use Rattle.kernel.specs.Views.{blockExtent}
 use Rattle.kernel.proofs.Kernel.block_extent.Statement.{statement}
 use Rattle.kernel.proofs.Kernel.block_extent.Tie as tie

@@ -1,9 +1,9 @@
 use mathlib.Core.Path.{_≡_, sym, ap, _∙_}
 use native.Mathlib.Omega.{arith}
 use borrow.Author.Needs.{needs}
-use Rattle.objects.specs.declared.pool.Pool.{Pool}
-use Rattle.objects.specs.Pools.{freshPool, blockSizesb}
-use Rattle.objects.proofs.Laws.Pools.{block-half}
+use Rattle.blocks.specs.declared.pool.Pool.{Pool}
+use Rattle.blocks.specs.Pools.{freshPool, blockSizesb}
+use Rattle.blocks.proofs.Laws.Pools.{block-half}
 use Rattle.calls.specs.Refusals.{poolCreateRefusal}
 use Rattle.kernel.specs.Tables.{poolAt, withScheduler, withPool}
 use Rattle.kernel.specs.Answers.{answerOf, refused, carried, answered}

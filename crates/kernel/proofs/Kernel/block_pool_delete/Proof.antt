@@ -2,8 +2,8 @@ use mathlib.Core.Path.{_≡_, sym, ap, _∙_}
 use borrow.Author.Needs.{needs}
 use Rattle.lines.specs.Lines.{members}
 use Rattle.scheduler.specs.Orders.{lineAt}
-use Rattle.objects.specs.declared.pool.Pool.{Pool}
-use Rattle.objects.specs.Pools.{noPool}
+use Rattle.blocks.specs.declared.pool.Pool.{Pool}
+use Rattle.blocks.specs.Pools.{noPool}
 use Rattle.calls.specs.Held.{noWords}
 use Rattle.calls.specs.Refusals.{poolDeleteRefusal}
 use Rattle.kernel.specs.declared.Kernel.{Kernel}

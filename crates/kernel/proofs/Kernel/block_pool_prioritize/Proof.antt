@@ -1,6 +1,6 @@
 use mathlib.Core.Path.{_≡_, sym, ap, _∙_}
 use borrow.Author.Needs.{needs}
-use Rattle.objects.specs.declared.pool.Pool.{Pool}
+use Rattle.blocks.specs.declared.pool.Pool.{Pool}
 use Rattle.calls.specs.Refusals.{poolRefusal}
 use Rattle.kernel.specs.Tables.{poolAt, withScheduler}
 use Rattle.kernel.specs.Answers.{answerOf, refused, carried, answered}

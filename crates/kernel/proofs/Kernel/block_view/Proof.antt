@@ -1,9 +1,9 @@
 use mathlib.Core.Path.{ap, _∙_}
 use borrow.Author.Needs.{needs}
 use lib.ListN.{length}
-use Rattle.objects.specs.declared.pool.Pool.{Pool}
-use Rattle.objects.specs.Pools.{blockStart}
-use Rattle.objects.specs.Views.{viewedb, viewed, onwards}
+use Rattle.blocks.specs.declared.pool.Pool.{Pool}
+use Rattle.blocks.specs.Pools.{blockStart}
+use Rattle.blocks.specs.Views.{viewedb, viewed, onwards}
 use Rattle.kernel.specs.Views.{blockView}
 use Rattle.kernel.proofs.Kernel.block_view.Statement.{statement}
 use Rattle.kernel.proofs.Kernel.block_view.Tie as tie

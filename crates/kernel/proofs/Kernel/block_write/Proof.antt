@@ -1,7 +1,7 @@
 use mathlib.Core.Path.{ap, _∙_}
 use borrow.Author.Needs.{needs}
-use Rattle.objects.specs.declared.pool.Pool.{Pool}
-use Rattle.objects.specs.Views.{written}
+use Rattle.blocks.specs.declared.pool.Pool.{Pool}
+use Rattle.blocks.specs.Views.{written}
 use Rattle.kernel.specs.Views.{blockWritten}
 use Rattle.kernel.proofs.Kernel.block_write.Statement.{statement}
 use Rattle.kernel.proofs.Kernel.block_write.Tie as tie

@@ -10,7 +10,7 @@ use Rattle.scheduler.specs.Orders.{threadAt}
 use Rattle.objects.specs.Semaphores.{noSemaphore}
 use Rattle.objects.specs.Queues.{noQueue}
 use Rattle.objects.specs.Groups.{noGroup}
-use Rattle.objects.specs.Pools.{noPool}
+use Rattle.blocks.specs.Pools.{noPool}
 use Rattle.calls.specs.Held.{noHeld}
 use Rattle.kernel.specs.Tables.{threadOf, heldAt, semaphoreAt, queueAt, groupAt, poolAt}
 use Rattle.waiting.specs.Fit.{heldFitb}

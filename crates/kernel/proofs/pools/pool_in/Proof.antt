@@ -5,7 +5,7 @@ use borrow.Author.Needs.{needs}
 use lib.ListN.{length}
 use mathlib.Core.Path.{_≡_, sym, _∙_}
 use Rattle.scheduler.proofs.Laws.Threads.{length-mapped}
-use Rattle.objects.specs.Pools.{noPool}
+use Rattle.blocks.specs.Pools.{noPool}
 use Rattle.lines.proofs.Laws.Lists.{getD-any}
 use lib.ListN.{List·getD-eq-default}
 use Rattle.kernel.proofs.pools.pool_in.Statement.{statement}

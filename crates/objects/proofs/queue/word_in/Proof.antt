@@ -1,7 +1,7 @@
 use mathlib.Core.Path.{sym, _∙_}
 use borrow.Author.Needs.{needs}
 use lib.ListN.{List·getD-append}
-use Rattle.objects.proofs.Laws.Slots.{getD-behind}
+use Rattle.lines.proofs.Laws.Slots.{getD-behind}
 use Rattle.objects.proofs.queue.word_in.Statement.{statement}
 use Rattle.objects.proofs.queue.word_in.Tie as tie
 

@@ -3,7 +3,7 @@ use Prim.Native.Nat.{_≤_, _-_}
 use native.Mathlib.Omega.{arith}
 use borrow.Author.Needs.{needs}
 use lib.ListN.{length}
-use Rattle.objects.proofs.Laws.Slots.{product-small}
+use Rattle.lines.proofs.Laws.Slots.{product-small}
 use Rattle.text.proofs.object_tables.put_stored.Statement.{statement}
 use Rattle.text.proofs.object_tables.put_stored.Tie as tie
 

@@ -7,8 +7,8 @@ use mathlib.Core.Bool.{_&&_}
 use Rattle.lines.specs.Logic.{allBelow}
 use Rattle.lines.proofs.Laws.Lists.{getD-any}
 use Rattle.lines.proofs.Laws.Logic.{all-more}
-use Rattle.objects.specs.Pools.{noPool, poolFitb}
-use Rattle.objects.specs.declared.pool.Pool.{Pool}
+use Rattle.blocks.specs.Pools.{noPool, poolFitb}
+use Rattle.blocks.specs.declared.pool.Pool.{Pool}
 use Rattle.waiting.specs.Fit.{poolsFitb}
 use Rattle.scheduler.proofs.Laws.Threads.{length-mapped}
 use Rattle.waiting.proofs.fit.pools_fit.Statement.{statement}

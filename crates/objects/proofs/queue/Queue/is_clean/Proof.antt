@@ -7,9 +7,9 @@ use lib.ListN.{length, getD}
 use lib.Dec.{eqb, ltb}
 use Rattle.lines.specs.Logic.{allBelow}
 use Rattle.lines.proofs.Laws.Logic.{all-more}
-use Rattle.objects.specs.Slots.{zeroFrom}
+use Rattle.lines.specs.Slots.{zeroFrom}
 use Rattle.objects.specs.Queues.{usedWords}
-use Rattle.objects.proofs.Laws.Slots.{product-small}
+use Rattle.lines.proofs.Laws.Slots.{product-small}
 use Rattle.objects.proofs.queue.Queue.is_clean.Statement.{statement}
 use Rattle.objects.proofs.queue.Queue.is_clean.Tie as tie
 

@@ -2,7 +2,7 @@ use Prim.Native.Nat.{_-_}
 use native.Mathlib.Omega.{arith}
 use borrow.Author.Needs.{needs}
 use Rattle.objects.specs.Queues.{usedWords}
-use Rattle.objects.proofs.Laws.Slots.{product-small}
+use Rattle.lines.proofs.Laws.Slots.{product-small}
 use Rattle.objects.proofs.queue.Queue.used.Statement.{statement}
 use Rattle.objects.proofs.queue.Queue.used.Tie as tie
 

@@ -7,7 +7,7 @@ use lib.ListN.{length}
 use Rattle.objects.specs.Queues.{roomb, storing}
 use Prim.Native.Nat.{min}
 use lib.Seq.{length-take-le}
-use Rattle.objects.proofs.Laws.Slots.{take-most}
+use Rattle.lines.proofs.Laws.Slots.{take-most}
 use Rattle.objects.proofs.Laws.Queues.{stored-most, words-stored, last-room, last-full, room-byte}
 use Rattle.objects.proofs.queue.Queue.with_last.Statement.{statement}
 use Rattle.objects.proofs.queue.Queue.with_last.Tie as tie

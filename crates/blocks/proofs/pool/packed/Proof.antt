@@ -1,0 +1,58 @@
+use mathlib.Core.Path.{_≡_, ap, _∙_}
+use mathlib.Core.List.{_++_}
+use Prim.Native.Nat.{ℕ, _≤_, _-_}
+use native.Mathlib.Omega.{arith}
+use borrow.Author.Needs.{needs}
+use lib.ListN.{take}
+use Rattle.lines.specs.Lines.{pad}
+use Rattle.lines.proofs.Laws.Lines.{pad-none, pad-take, pad-on}
+use Rattle.blocks.proofs.pool.packed.Statement.{statement}
+use Rattle.blocks.proofs.pool.packed.Tie as tie
+
+abbrev Inv-loop : tie.InvT-loop
+Inv-loop front back list₀ i₀ list i = (i ≤ 64) × (list ≡ pad 64 (take i (front ++ back)))
+
+abbrev μ-loop : tie.MeasureT-loop
+μ-loop front back list₀ i₀ list i = 64 - i
+
+loop-holds : tie.Need-loop-holds Inv-loop μ-loop
+loop-holds c = (omega arith, pad-none 64)
+
+block-in-requires : tie.Need-block-in-requires Inv-loop μ-loop
+block-in-requires c κs = search needs
+
+array-write-list : tie.Need-array-write-list Inv-loop μ-loop
+array-write-list c = search needs
+
+add-i : tie.Need-add-i Inv-loop μ-loop
+add-i c = search needs
+
+loop-less : tie.Need-loop-less Inv-loop μ-loop
+loop-less c = search needs
+
+loop-again : tie.Need-loop-again Inv-loop μ-loop
+loop-again c =
+    let l = c .before .before .loop in
+    let a = c .before .before .before .before .before .args in
+    (omega arith, rw (c .block-in .ensures, l .inv .1) (pad-on 64 (a .front .now ++ a .back .now) (l .i)))
+
+returns : tie.Need-returns Inv-loop μ-loop
+returns c =
+    let l = c .before .loop in
+    let a = c .before .before .before .before .args in
+    let e : l .i ≡ 64 = omega arith in
+    l .inv .1 ∙ ap (λ (k : ℕ). pad 64 (take k (a .front .now ++ a .back .now))) e ∙ pad-take 64 (a .front .now ++ a .back .now)
+
+pub packed-spec : {M : Type 1} → statement M
+packed-spec =
+    tie.close
+    (tie.spec
+    Inv-loop
+    μ-loop
+    loop-holds
+    block-in-requires
+    array-write-list
+    add-i
+    loop-less
+    loop-again
+    returns)

@@ -1,0 +1,80 @@
+-- A block pool's record.
+use mathlib.Core.List.{List, _∷_}
+use mathlib.Core.Bool.{Bool, true, false, _&&_}
+use Prim.Native.Nat.{ℕ, _+_, _*_, _/_, _%_}
+use lib.ListN.{length, take, drop, getD, replicate}
+use lib.Dec.{eqb, ltb, leb}
+use Rattle.lines.specs.Logic.{if_then_else_, allBelow}
+use Rattle.lines.specs.Lists.{count, below, numbersFrom}
+use Rattle.lines.specs.Lines.{pad}
+use Rattle.lines.specs.Slots.{slots, zeroFrom}
+use Rattle.blocks.specs.declared.pool.Pool.{Pool}
+
+-- not created: all zero
+unfoldable pub noPool : Pool
+noPool = record { created = false; block = 0; total = 0; free = 0; list = replicate 64 0 }
+
+-- blocks = total / (block bytes + 4), rounded down
+unfoldable pub blocksOf : Pool → ℕ
+blocksOf p = p .total / (p .block + 4)
+
+-- the free blocks, in the order in which they are given
+unfoldable pub freeBlocks : Pool → List ℕ
+freeBlocks p = take (p .free) (p .list)
+
+-- block bytes are a multiple of 4, from 4 to 256, and there are 1 to 64 blocks
+unfoldable pub blockSizesb : ℕ → ℕ → Bool
+blockSizesb block total =
+    eqb (block % 4) 0 && leb 4 block && leb block 256 && leb 1 (total / (block + 4)) && leb (total / (block + 4)) slots
+
+unfoldable pub poolLimitsb : Pool → Bool
+poolLimitsb p = blockSizesb (p .block) (p .total)
+
+-- no number below 64 stands twice in a list
+unfoldable pub onceb : List ℕ → Bool
+onceb xs = allBelow slots (λ n. leb (count n xs) 1)
+
+-- a free block is one of the pool's, numbered from 0, and is listed once
+unfoldable pub listingb : Pool → Bool
+listingb p = below (blocksOf p) (freeBlocks p) && onceb (freeBlocks p)
+
+-- no more blocks are free than there are, each is listed once, and the list past them is zero
+unfoldable pub listFitb : Pool → Bool
+listFitb p = leb (p .free) (blocksOf p) && listingb p && zeroFrom (p .free) (p .list)
+
+-- an uncreated record is zero
+unfoldable pub poolZerob : Pool → Bool
+poolZerob p = eqb (p .block) 0 && eqb (p .total) 0 && eqb (p .free) 0 && zeroFrom 0 (p .list)
+
+-- the record is fit in itself, whoever waits
+unfoldable pub poolFitb : Pool → Bool
+poolFitb p = if p .created then (poolLimitsb p && listFitb p) else poolZerob p
+
+-- ---- blocks
+-- the pool with these free blocks, in the order in which they are given; the list has room for 64, and past them it is zero
+unfoldable pub listing : Pool → List ℕ → Pool
+listing p xs = record { created = p .created; block = p .block; total = p .total; free = length (take slots xs); list = pad slots xs }
+
+-- a created pool: "Free blocks start in ascending order"
+unfoldable pub freshPool : ℕ → ℕ → Pool
+freshPool block total = listing (record { created = true; block = block; total = total; free = 0; list = replicate 64 0 }) (numbersFrom 0 (total / (block + 4)))
+
+-- block n is one of the pool's and in use
+unfoldable pub usedb : Pool → ℕ → Bool
+usedb p n = ltb n (blocksOf p) && eqb (count n (freeBlocks p)) 0
+
+-- the block that is given next; 64, which is no block, where none is free
+unfoldable pub nextBlock : Pool → ℕ
+nextBlock p = getD (freeBlocks p) 0 slots
+
+-- the next block is given
+unfoldable pub withoutNext : Pool → Pool
+withoutNext p = listing p (drop 1 (freeBlocks p))
+
+-- "the last released is given first": block n is free again
+unfoldable pub withFree : Pool → ℕ → Pool
+withFree p n = listing p (n ∷ freeBlocks p)
+
+-- "Block n starts at n × (block bytes + 4) + 4"
+unfoldable pub blockStart : Pool → ℕ → ℕ
+blockStart p n = n * (p .block + 4) + 4

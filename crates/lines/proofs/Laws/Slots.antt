@@ -1,0 +1,89 @@
+-- Laws of stores and lists in 64 slots.
+use mathlib.Core.Path.{_≡_, refl, sym, ap, ap₂, _∙_}
+use mathlib.Core.List.{List, [], _∷_, _++_}
+use mathlib.Core.Bool.{Bool, true, false, _&&_, _||_}
+use Prim.Native.Nat.{ℕ, zero, suc, _+_, _-_, _*_, _≤_, _<_, min}
+use native.Mathlib.Nat.{mul-le-mul, zero-min, suc-min-suc, sub-zero, zero-sub, suc-sub-suc}
+use native.Mathlib.Omega.{arith}
+use lib.ListN.{length, take, drop, getD, replicate, length-take, length-replicate, getD-replicate}
+use lib.Seq.{take-nil, drop-nil, ext-getD, getD-append-add}
+use lib.Dec.{eqb, ltb}
+use borrow.Author.Tests.{eqb-true, eq-eqb, le-ltb, ltb-false}
+use Rattle.lines.specs.Logic.{allBelow}
+use Rattle.lines.proofs.Laws.Logic.{by-test, or-left, or-right, or-rest, all-at, all-in}
+use Rattle.lines.specs.Slots.{zeroFrom}
+
+-- two tests that follow from each other are the same
+pub same-test : (a b : Bool) → (a ≡ true → b ≡ true) → (b ≡ true → a ≡ true) → a ≡ b
+same-test true b f g = sym (f refl)
+same-test false true f g = g refl
+same-test false false f g = refl
+
+-- tests that agree on every number of a range agree on the range
+pub all-same : (n : ℕ) (f g : ℕ → Bool) → ((i : ℕ) → i < n → f i ≡ g i) → allBelow n f ≡ allBelow n g
+unfolding allBelow
+all-same zero f g h = refl
+all-same (suc n) f g h = ap₂ _&&_ (all-same n f g (λ i l. h i (omega arith))) (h n (omega arith))
+
+-- the product of two bytes
+pub product-small : (a b : ℕ) → a < 256 → b < 256 → a * b ≤ 255 * 255
+product-small a b h g = mul-le-mul (let l : a ≤ 255 = omega arith in l) (let l : b ≤ 255 = omega arith in l)
+
+-- as many as a list has of its first n are its first n
+pub take-again : (n : ℕ) (xs : List ℕ) → take (length (take n xs)) xs ≡ take n xs
+take-again zero xs = refl
+take-again (suc n) [] = refl
+take-again (suc n) (x ∷ xs) = ap {B = List ℕ} (λ r. x ∷ r) (take-again n xs)
+
+-- no more than a list has
+pub take-most : (n k : ℕ) (xs : List ℕ) → k ≡ min n (length xs) → take k xs ≡ take n xs
+take-most n k xs e = ap (λ (j : ℕ). take j xs) (e ∙ sym (length-take n xs)) ∙ take-again n xs
+
+pub drop-most : (n k : ℕ) (xs : List ℕ) → k ≡ min n (length xs) → drop k xs ≡ drop n xs
+drop-most n k xs e = ap (λ (j : ℕ). drop j xs) e ∙ go n xs
+  where
+    go : (n : ℕ) (xs : List ℕ) → drop (min n (length xs)) xs ≡ drop n xs
+    go zero xs = ap (λ (j : ℕ). drop j xs) (zero-min (length xs))
+    go (suc n) [] = drop-nil (min (suc n) 0)
+    go (suc n) (x ∷ xs) = ap (λ (j : ℕ). drop j (x ∷ xs)) (suc-min-suc n (length xs)) ∙ go n xs
+
+-- a part from j to k
+pub part : (j k : ℕ) (xs : List ℕ) → take (k - j) (drop j xs) ≡ drop j (take k xs)
+part zero k xs = ap (λ (n : ℕ). take n xs) (sub-zero k)
+part (suc j) zero xs = ap (λ (n : ℕ). take n (drop (suc j) xs)) (zero-sub (suc j))
+part (suc j) (suc k) [] = take-nil (suc k - suc j)
+part (suc j) (suc k) (x ∷ xs) = ap (λ (n : ℕ). take n (drop j xs)) (suc-sub-suc k j) ∙ part j k xs
+
+-- a place behind the first part is a place of the second
+pub getD-behind : (xs ys : List ℕ) (i : ℕ) → length xs ≤ i → getD (xs ++ ys) i 0 ≡ getD ys (i - length xs) 0
+getD-behind xs ys i h =
+    let e : i ≡ length xs + (i - length xs) = omega (arith, h) in
+    ap (λ (k : ℕ). getD (xs ++ ys) k 0) e ∙ getD-append-add xs ys (i - length xs) 0
+
+-- ---- zero behind what is in use
+module _ (n : ℕ) (xs : List ℕ) where
+  abbrev clean : ℕ → Bool
+  clean i = ltb i n || eqb (getD xs i 0) 0
+
+  pub zero-at : zeroFrom n xs ≡ true → (i : ℕ) → n ≤ i → i < 64 → getD xs i 0 ≡ 0
+  unfolding zeroFrom
+  zero-at e i l h = eqb-true (getD xs i 0) 0 (or-rest (ltb i n) (eqb (getD xs i 0) 0) (all-at 64 clean e i h) (le-ltb i n l))
+
+  pub zero-in : ((i : ℕ) → n ≤ i → i < 64 → getD xs i 0 ≡ 0) → zeroFrom n xs ≡ true
+  unfolding zeroFrom
+  zero-in h =
+      all-in 64 clean
+      (λ i l. by-test (ltb i n)
+      (λ q. or-left (ltb i n) (eqb (getD xs i 0) 0) q)
+      (λ q. or-right (ltb i n) (eqb (getD xs i 0) 0) (eq-eqb (getD xs i 0) 0 (h i (ltb-false i n q) l))))
+
+-- slots that are all zero
+pub all-zero : (xs : List ℕ) → length xs ≡ 64 → zeroFrom 0 xs ≡ true → xs ≡ replicate 64 0
+all-zero xs e z =
+    ext-getD 0 xs (replicate 64 0) (e ∙ sym (length-replicate {A = ℕ} 64 0))
+    (λ i l. zero-at 0 xs z i (omega arith) (omega (arith, e, l)) ∙ sym (getD-replicate 64 i 0 0 (omega (arith, e, l))))
+
+-- where nothing is in use, what is behind it is all
+pub none-used : (a : Bool) (n : ℕ) (xs : List ℕ) → (a ≡ true → n ≡ 0) → (a && zeroFrom n xs) ≡ (a && zeroFrom 0 xs)
+none-used true n xs h = ap (λ (k : ℕ). zeroFrom k xs) (h refl)
+none-used false n xs h = refl
