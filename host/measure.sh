@@ -119,3 +119,15 @@ for w in 1 8 31; do
     measure "set OR, $w wait, all woken (one set)" 1 0 "$waiting"$'\n'"$again" "$set"
     measure "set OR, $w wait, all woken, all wait again" 40 "0 $(times 257 "$w" | xargs)" "$waiting"$'\n'"$again" "$again"
 done
+
+# ---- block pools
+pool='startup tx_block_pool_create pool=0 block_bytes=4 total_bytes=512'
+last='startup tx_block_pool_create pool=0 block_bytes=4 total_bytes=8'
+allocate='interrupt tx_block_allocate pool=0 wait=none'
+release='interrupt tx_block_release pool=0 block=0'
+pair=$allocate$'\n'$release
+measure 'allocate, 64 blocks run out' 60 0 "$pool"$'\n'"$allocate" "$allocate"
+measure 'allocate and release, 64 blocks' 400 '0 0' "$pool"$'\n'"$pair" "$pair"
+measure 'allocate refused, no block free' 400 16 "$last"$'\n'"$allocate"$'\n'"$allocate" "$allocate"
+handover='thread tx_block_allocate pool=0 wait=forever'$'\n'$release
+measure 'allocate waits, release to it' 400 '257 0' "$(threads 1)"$'\n'"$last"$'\n'"$allocate"$'\n'"$handover" "$handover"

@@ -19,7 +19,7 @@ fn verdict(what: &[u8], k: Kernel) {
 // The tables after one call, with one word of messages lent.
 fn after(k: Kernel, number: u32, caller: u32, a: u32, b: u32, c: u32, d: u32) -> Kernel {
     let words: [u32; 1] = [7; 1];
-    let r = k.step(number, caller, a, b, c, d, &words);
+    let r = k.call(number, caller, a, b, c, d, &words);
     r.kernel
 }
 

@@ -15,7 +15,7 @@ use waiting::ticks::timeout_status;
 use waiting::ticks::with_ticks;
 
 impl Kernel {
-    pub fn time_get(self) -> Answer
+    pub(crate) fn time_get(self) -> Answer
         ensures { λ r. ⌜ r ≡ answerOf (timeGet self) ⌝ }
     {
         let s = self.scheduler;
@@ -23,7 +23,7 @@ impl Kernel {
         self.carried(s, SUCCESS, words, 0)
     }
 
-    pub fn time_set(mut self, time: u32) -> Answer
+    pub(crate) fn time_set(mut self, time: u32) -> Answer
         ensures { λ r. ⌜ r ≡ answerOf (timeSet self time) ⌝ }
     {
         let s = self.scheduler;
@@ -32,7 +32,7 @@ impl Kernel {
     }
 
     // The clock goes up by one, and every timed wait has one tick less.
-    pub fn tick(self, caller: u32) -> Answer
+    pub(crate) fn tick(self, caller: u32) -> Answer
         ensures { λ r. ⌜ r ≡ answerOf (tick self caller) ⌝ }
     {
         let reason = refusal::tick(caller);

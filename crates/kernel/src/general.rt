@@ -102,7 +102,7 @@ impl Kernel {
     }
 
     // One call on tables that were tested before.
-    pub fn step(
+    pub(crate) fn step(
         self,
         number: u32,
         caller: u32,

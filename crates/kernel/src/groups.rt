@@ -51,7 +51,7 @@ fn place(n: GroupId) -> Place
 }
 
 impl Kernel {
-    pub fn event_flags_create(mut self, caller: u32, n: GroupId) -> Answer
+    pub(crate) fn event_flags_create(mut self, caller: u32, n: GroupId) -> Answer
         ensures { λ r. ⌜ r ≡ answerOf (groupCreate self caller (n .0)) ⌝ }
     {
         let all = self.groups;
@@ -65,7 +65,7 @@ impl Kernel {
         self.carried(s, SUCCESS, [0; 16], 0)
     }
 
-    pub fn event_flags_delete(mut self, caller: u32, n: GroupId) -> Answer
+    pub(crate) fn event_flags_delete(mut self, caller: u32, n: GroupId) -> Answer
         ensures { λ r. ⌜ r ≡ answerOf (groupDelete self caller (n .0)) ⌝ }
     {
         let all = self.groups;
@@ -101,7 +101,7 @@ impl Kernel {
         self.ended_each(met.line, SUCCESS, two_words(flags, 0))
     }
 
-    pub fn event_flags_set(mut self, n: GroupId, flags: u32, option: u32) -> Answer
+    pub(crate) fn event_flags_set(mut self, n: GroupId, flags: u32, option: u32) -> Answer
         ensures { λ r. ⌜ r ≡ answerOf (groupSet self (n .0) flags option) ⌝ }
     {
         let all = self.groups;
@@ -119,7 +119,7 @@ impl Kernel {
         self.carried(s, SUCCESS, [0; 16], 0)
     }
 
-    pub fn event_flags_get(
+    pub(crate) fn event_flags_get(
         mut self,
         caller: u32,
         n: GroupId,

@@ -65,7 +65,7 @@ impl Kernel {
     }
 
     // The answer of a refused call: the tables as they are.
-    pub fn refused(self, status: u32) -> Answer
+    pub(crate) fn refused(self, status: u32) -> Answer
         ensures { λ r. ⌜ r ≡ answerOf (refused self status) ⌝ }
     {
         let s = self.scheduler;
@@ -80,7 +80,13 @@ impl Kernel {
     }
 
     // The answer of a call that was carried out, after which the next thread is chosen on `s`.
-    pub fn carried(mut self, s: Scheduler, status: u32, words: [u32; 16], ended: u32) -> Answer
+    pub(crate) fn carried(
+        mut self,
+        s: Scheduler,
+        status: u32,
+        words: [u32; 16],
+        ended: u32,
+    ) -> Answer
         ensures { λ r. ⌜ r ≡ answered self s status words ended ⌝ }
     {
         let chosen = s.rescheduled(false);
@@ -97,7 +103,7 @@ impl Kernel {
 
     // The same where thread `t` holds `h` afterwards: for services that are called seldom, since it costs a copy of the tables
     // more than a store of the caller's own.
-    pub fn held_carried(
+    pub(crate) fn held_carried(
         mut self,
         t: ThreadId,
         h: Held,
@@ -116,7 +122,7 @@ impl Kernel {
 }
 
 // The record of semaphore `n`, that of an uncreated one past the table.
-pub fn semaphore_in(all: [Semaphore; 16], n: SemaphoreId) -> Semaphore
+pub(crate) fn semaphore_in(all: [Semaphore; 16], n: SemaphoreId) -> Semaphore
     ensures { λ r. ⌜ r ≡ getD all (n .0) noSemaphore ⌝ }
 {
     let i = n.0 as usize;
@@ -124,7 +130,7 @@ pub fn semaphore_in(all: [Semaphore; 16], n: SemaphoreId) -> Semaphore
 }
 
 // What thread `t` holds, nothing past the table.
-pub fn held_in(all: [Held; 32], t: ThreadId) -> Held
+pub(crate) fn held_in(all: [Held; 32], t: ThreadId) -> Held
     ensures { λ r. ⌜ r ≡ getD all (t .0) noHeld ⌝ }
 {
     let i = t.0 as usize;
@@ -132,7 +138,7 @@ pub fn held_in(all: [Held; 32], t: ThreadId) -> Held
 }
 
 // Sixteen words that begin with these two.
-pub fn two_words(a: u32, b: u32) -> [u32; 16]
+pub(crate) fn two_words(a: u32, b: u32) -> [u32; 16]
     ensures { λ r. ⌜ r ≡ twoWords a b ⌝ }
 {
     [a, b, 0, 0, 0, 0, 0, 0, 0, 0, 0, 0, 0, 0, 0, 0]

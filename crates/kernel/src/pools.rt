@@ -18,7 +18,7 @@ use scheduler::thread::ON_BLOCK;
 use scheduler::thread::Place;
 
 // The record of pool `n`, that of an uncreated one past the table.
-pub fn pool_in(all: [Pool; 4], n: PoolId) -> Pool
+pub(crate) fn pool_in(all: [Pool; 4], n: PoolId) -> Pool
     ensures { λ r. ⌜ r ≡ getD all (n .0) noPool ⌝ }
 {
     let i = n.0 as usize;
@@ -47,7 +47,13 @@ fn place(n: PoolId) -> Place
 }
 
 impl Kernel {
-    pub fn block_pool_create(mut self, caller: u32, n: PoolId, block: u32, total: u32) -> Answer
+    pub(crate) fn block_pool_create(
+        mut self,
+        caller: u32,
+        n: PoolId,
+        block: u32,
+        total: u32,
+    ) -> Answer
         ensures { λ r. ⌜ r ≡ answerOf (poolCreate self caller (n .0) block total) ⌝ }
     {
         let all = self.pools;
@@ -61,7 +67,7 @@ impl Kernel {
         self.carried(s, SUCCESS, [0; 16], 0)
     }
 
-    pub fn block_pool_delete(mut self, caller: u32, n: PoolId) -> Answer
+    pub(crate) fn block_pool_delete(mut self, caller: u32, n: PoolId) -> Answer
         ensures { λ r. ⌜ r ≡ answerOf (poolDelete self caller (n .0)) ⌝ }
     {
         let all = self.pools;
@@ -76,7 +82,7 @@ impl Kernel {
         self.ended_each(line, DELETED, [0; 16])
     }
 
-    pub fn block_allocate(mut self, caller: u32, n: PoolId, wait: u32) -> Answer
+    pub(crate) fn block_allocate(mut self, caller: u32, n: PoolId, wait: u32) -> Answer
         ensures { λ r. ⌜ r ≡ answerOf (blockAllocate self caller (n .0) wait) ⌝ }
     {
         let all = self.pools;
@@ -96,7 +102,7 @@ impl Kernel {
     }
 
     // The first in line gets the block, else it is free again.
-    pub fn block_release(mut self, n: PoolId, block: u8) -> Answer
+    pub(crate) fn block_release(mut self, n: PoolId, block: u8) -> Answer
         ensures { λ r. ⌜ r ≡ answerOf (blockRelease self (n .0) block) ⌝ }
     {
         let all = self.pools;
@@ -118,7 +124,7 @@ impl Kernel {
         self.carried(s, SUCCESS, [0; 16], 0)
     }
 
-    pub fn block_pool_prioritize(self, n: PoolId) -> Answer
+    pub(crate) fn block_pool_prioritize(self, n: PoolId) -> Answer
         ensures { λ r. ⌜ r ≡ answerOf (poolPrioritize self (n .0)) ⌝ }
     {
         let all = self.pools;

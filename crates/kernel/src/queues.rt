@@ -72,7 +72,7 @@ impl Kernel {
         self.ended_each(line, status, [0; 16])
     }
 
-    pub fn queue_create(self, caller: u32, n: QueueId, words: u32, storage: u32) -> Answer
+    pub(crate) fn queue_create(self, caller: u32, n: QueueId, words: u32, storage: u32) -> Answer
         ensures { λ r. ⌜ r ≡ answerOf (queueCreate self caller (n .0) words storage) ⌝ }
     {
         let all = self.queues;
@@ -84,7 +84,7 @@ impl Kernel {
         self.queue_carried(n, Queue::of(words, storage), s, [0; 16], 0)
     }
 
-    pub fn queue_delete(self, caller: u32, n: QueueId) -> Answer
+    pub(crate) fn queue_delete(self, caller: u32, n: QueueId) -> Answer
         ensures { λ r. ⌜ r ≡ answerOf (queueDelete self caller (n .0)) ⌝ }
     {
         let all = self.queues;
@@ -114,7 +114,7 @@ impl Kernel {
     }
 
     // Send, and front send where `front` says so. The message is at `index` of the lent words.
-    pub fn queue_send(
+    pub(crate) fn queue_send(
         self,
         caller: u32,
         n: QueueId,
@@ -156,7 +156,7 @@ impl Kernel {
         self.queue_carried(n, q.without_oldest(), s, q.oldest(), 0)
     }
 
-    pub fn queue_receive(self, caller: u32, n: QueueId, wait: u32) -> Answer
+    pub(crate) fn queue_receive(self, caller: u32, n: QueueId, wait: u32) -> Answer
         ensures { λ r. ⌜ r ≡ answerOf (queueReceive self caller (n .0) wait) ⌝ }
     {
         let all = self.queues;
@@ -168,7 +168,7 @@ impl Kernel {
         self.received(n, q, wait)
     }
 
-    pub fn queue_flush(self, n: QueueId) -> Answer
+    pub(crate) fn queue_flush(self, n: QueueId) -> Answer
         ensures { λ r. ⌜ r ≡ answerOf (queueFlush self (n .0)) ⌝ }
     {
         let all = self.queues;
@@ -184,7 +184,7 @@ impl Kernel {
         self.queue_ended(n, q.flushed(), SUCCESS)
     }
 
-    pub fn queue_prioritize(self, n: QueueId) -> Answer
+    pub(crate) fn queue_prioritize(self, n: QueueId) -> Answer
         ensures { λ r. ⌜ r ≡ answerOf (queuePrioritize self (n .0)) ⌝ }
     {
         let all = self.queues;

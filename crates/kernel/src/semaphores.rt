@@ -48,7 +48,7 @@ fn place(n: SemaphoreId) -> Place
 }
 
 impl Kernel {
-    pub fn semaphore_create(mut self, caller: u32, n: SemaphoreId, count: u32) -> Answer
+    pub(crate) fn semaphore_create(mut self, caller: u32, n: SemaphoreId, count: u32) -> Answer
         ensures { λ r. ⌜ r ≡ answerOf (semaphoreCreate self caller (n .0) count) ⌝ }
     {
         let all = self.semaphores;
@@ -62,7 +62,7 @@ impl Kernel {
         self.carried(s, SUCCESS, [0; 16], 0)
     }
 
-    pub fn semaphore_get(mut self, caller: u32, n: SemaphoreId, wait: u32) -> Answer
+    pub(crate) fn semaphore_get(mut self, caller: u32, n: SemaphoreId, wait: u32) -> Answer
         ensures { λ r. ⌜ r ≡ answerOf (semaphoreGet self caller (n .0) wait) ⌝ }
     {
         let all = self.semaphores;
@@ -99,7 +99,7 @@ impl Kernel {
         self.carried(s, SUCCESS, [0; 16], 0)
     }
 
-    pub fn semaphore_put(self, n: SemaphoreId) -> Answer
+    pub(crate) fn semaphore_put(self, n: SemaphoreId) -> Answer
         ensures { λ r. ⌜ r ≡ answerOf (semaphorePut self (n .0)) ⌝ }
     {
         let all = self.semaphores;
@@ -110,7 +110,7 @@ impl Kernel {
         self.put_on(n)
     }
 
-    pub fn semaphore_ceiling_put(self, n: SemaphoreId, ceiling: u32) -> Answer
+    pub(crate) fn semaphore_ceiling_put(self, n: SemaphoreId, ceiling: u32) -> Answer
         ensures { λ r. ⌜ r ≡ answerOf (semaphoreCeilingPut self (n .0) ceiling) ⌝ }
     {
         let all = self.semaphores;
@@ -121,7 +121,7 @@ impl Kernel {
         self.put_on(n)
     }
 
-    pub fn semaphore_prioritize(self, n: SemaphoreId) -> Answer
+    pub(crate) fn semaphore_prioritize(self, n: SemaphoreId) -> Answer
         ensures { λ r. ⌜ r ≡ answerOf (semaphorePrioritize self (n .0)) ⌝ }
     {
         let all = self.semaphores;
@@ -133,7 +133,7 @@ impl Kernel {
         self.carried(s.prioritised(place(n)), SUCCESS, [0; 16], 0)
     }
 
-    pub fn semaphore_delete(mut self, caller: u32, n: SemaphoreId) -> Answer
+    pub(crate) fn semaphore_delete(mut self, caller: u32, n: SemaphoreId) -> Answer
         ensures { λ r. ⌜ r ≡ answerOf (semaphoreDelete self caller (n .0)) ⌝ }
     {
         let all = self.semaphores;

@@ -30,7 +30,7 @@ fn start_state(start: u32) -> u8
 }
 
 impl Kernel {
-    pub fn thread_create(
+    pub(crate) fn thread_create(
         self,
         caller: u32,
         t: ThreadId,
@@ -49,7 +49,7 @@ impl Kernel {
         self.held_carried(t, Held::of(0, [0; 16]), s.moved(t, th), SUCCESS, 0)
     }
 
-    pub fn thread_delete(self, caller: u32, t: ThreadId) -> Answer
+    pub(crate) fn thread_delete(self, caller: u32, t: ThreadId) -> Answer
         ensures { λ r. ⌜ r ≡ answerOf (threadDelete self caller (t .0)) ⌝ }
     {
         let s = self.scheduler;
@@ -66,7 +66,7 @@ impl Kernel {
         )
     }
 
-    pub fn thread_resume(self, t: ThreadId) -> Answer
+    pub(crate) fn thread_resume(self, t: ThreadId) -> Answer
         ensures { λ r. ⌜ r ≡ answerOf (threadResume self (t .0)) ⌝ }
     {
         let s = self.scheduler;
@@ -86,7 +86,7 @@ impl Kernel {
         self.carried(s.moved(t, th.in_state(READY, 0, 0)), SUCCESS, [0; 16], 0)
     }
 
-    pub fn thread_suspend(self, t: ThreadId) -> Answer
+    pub(crate) fn thread_suspend(self, t: ThreadId) -> Answer
         ensures { λ r. ⌜ r ≡ answerOf (threadSuspend self (t .0)) ⌝ }
     {
         let s = self.scheduler;
@@ -114,7 +114,7 @@ impl Kernel {
         self.carried(s, SUCCESS, [0; 16], 0)
     }
 
-    pub fn thread_terminate(self, caller: u32, t: ThreadId) -> Answer
+    pub(crate) fn thread_terminate(self, caller: u32, t: ThreadId) -> Answer
         ensures { λ r. ⌜ r ≡ answerOf (threadTerminate self caller (t .0)) ⌝ }
     {
         let s = self.scheduler;
@@ -130,7 +130,7 @@ impl Kernel {
         self.held_carried(t, Held::of(0, [0; 16]), s.moved(t, ended), SUCCESS, 0)
     }
 
-    pub fn thread_reset(self, caller: u32, t: ThreadId) -> Answer
+    pub(crate) fn thread_reset(self, caller: u32, t: ThreadId) -> Answer
         ensures { λ r. ⌜ r ≡ answerOf (threadReset self caller (t .0)) ⌝ }
     {
         let s = self.scheduler;
@@ -143,7 +143,7 @@ impl Kernel {
         self.held_carried(t, Held::of(0, [0; 16]), s.moved(t, fresh), SUCCESS, 0)
     }
 
-    pub fn thread_finish(self, caller: u32) -> Answer
+    pub(crate) fn thread_finish(self, caller: u32) -> Answer
         ensures { λ r. ⌜ r ≡ answerOf (threadFinish self caller) ⌝ }
     {
         let reason = refusal::thread_only(caller);
@@ -157,7 +157,7 @@ impl Kernel {
         self.held_carried(t, Held::of(0, [0; 16]), s.moved(t, ended), SUCCESS, 0)
     }
 
-    pub fn thread_relinquish(mut self, caller: u32) -> Answer
+    pub(crate) fn thread_relinquish(mut self, caller: u32) -> Answer
         ensures { λ r. ⌜ r ≡ answerOf (threadRelinquish self caller) ⌝ }
     {
         let reason = refusal::thread_only(caller);
@@ -177,7 +177,7 @@ impl Kernel {
         }
     }
 
-    pub fn thread_sleep(self, caller: u32, ticks: u32) -> Answer
+    pub(crate) fn thread_sleep(self, caller: u32, ticks: u32) -> Answer
         ensures { λ r. ⌜ r ≡ answerOf (threadSleep self caller ticks) ⌝ }
     {
         let reason = refusal::thread_only(caller);
@@ -191,7 +191,7 @@ impl Kernel {
         self.started_wait(false, ASLEEP, 0, ticks, Held::of(WAITING, [0; 16]))
     }
 
-    pub fn thread_wait_abort(self, t: ThreadId) -> Answer
+    pub(crate) fn thread_wait_abort(self, t: ThreadId) -> Answer
         ensures { λ r. ⌜ r ≡ answerOf (threadWaitAbort self (t .0)) ⌝ }
     {
         let s = self.scheduler;
@@ -202,7 +202,7 @@ impl Kernel {
         self.held_carried(t, Held::of(WAIT_ABORTED, [0; 16]), s.woken(t), SUCCESS, 1)
     }
 
-    pub fn thread_priority_change(self, caller: u32, t: ThreadId, priority: u32) -> Answer
+    pub(crate) fn thread_priority_change(self, caller: u32, t: ThreadId, priority: u32) -> Answer
         ensures { λ r. ⌜ r ≡ answerOf (threadPriorityChange self caller (t .0) priority) ⌝ }
     {
         let s = self.scheduler;
@@ -215,7 +215,7 @@ impl Kernel {
         self.carried(s.priority_changed(t, priority as u8), SUCCESS, words, 0)
     }
 
-    pub fn thread_preemption_change(self, caller: u32, t: ThreadId, threshold: u32) -> Answer
+    pub(crate) fn thread_preemption_change(self, caller: u32, t: ThreadId, threshold: u32) -> Answer
         ensures { λ r. ⌜ r ≡ answerOf (threadPreemptionChange self caller (t .0) threshold) ⌝ }
     {
         let s = self.scheduler;
@@ -229,7 +229,7 @@ impl Kernel {
     }
 
     // A thread's state and held status.
-    pub fn thread_state_read(self, t: ThreadId) -> Answer
+    pub(crate) fn thread_state_read(self, t: ThreadId) -> Answer
         ensures { λ r. ⌜ r ≡ answerOf (threadStateRead self (t .0)) ⌝ }
     {
         let s = self.scheduler;
@@ -245,7 +245,7 @@ impl Kernel {
     }
 
     // A thread's held words.
-    pub fn thread_words_read(self, t: ThreadId) -> Answer
+    pub(crate) fn thread_words_read(self, t: ThreadId) -> Answer
         ensures { λ r. ⌜ r ≡ answerOf (threadWordsRead self (t .0)) ⌝ }
     {
         let s = self.scheduler;

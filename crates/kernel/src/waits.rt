@@ -16,7 +16,14 @@ use lines::ThreadId;
 
 impl Kernel {
     // The running thread now waits or sleeps, and holds `h` meanwhile.
-    pub fn started_wait(mut self, front: bool, state: u8, object: u8, ticks: u32, h: Held) -> Answer
+    pub(crate) fn started_wait(
+        mut self,
+        front: bool,
+        state: u8,
+        object: u8,
+        ticks: u32,
+        h: Held,
+    ) -> Answer
         ensures { λ r. ⌜ r ≡ answerOf (carried (startWait self front state object ticks h) waiting noWords []) ⌝ }
     {
         let s = self.scheduler;
@@ -35,7 +42,7 @@ impl Kernel {
     }
 
     // The waits of all in the line end with a status and words, in order, and the call is done.
-    pub fn ended_each(mut self, line: Line, status: u32, words: [u32; 16]) -> Answer
+    pub(crate) fn ended_each(mut self, line: Line, status: u32, words: [u32; 16]) -> Answer
         ensures { λ r. ⌜ r ≡ answerOf (carried (endEach self status words (members line)) success noWords (members line)) ⌝ }
     {
         let ids = line.ids;
