@@ -1,10 +1,13 @@
 // Runs of call tapes.
 ghost use mathlib.Core.Path.{_≡_};
 ghost use Prim.Native.Nat.{min};
-ghost use Rattle.kernel.specs.Runs.{ran};
+ghost use Rattle.kernel.specs.Runs.{ran, ranReplies};
 use super::Kernel;
 use calls::status::SUCCESS;
+use calls::status::TABLES_UNSOUND;
 use calls::status::TAPE_REFUSED;
+use tape::replies::Reply;
+use tape::replies::put_reply;
 
 // The tables after a run, and how many records it carried out.
 pub struct Ran {
@@ -20,10 +23,12 @@ fn smaller(a: u32, b: u32) -> u32
 }
 
 impl Kernel {
-    // Carries out the records of a tape in order, at most `most` of them. The starting tables are tested once: every
-    // call keeps sound tables sound, and on unsound ones each record is refused and changes nothing.
-    pub fn run(self, bytes: &[u8], most: u32) -> Ran
+    // Carries out the records of a tape in order, at most `most` of them, and writes each reply that there is room for. The
+    // starting tables are tested once: every call keeps sound tables sound, and on unsound ones each record is refused,
+    // nothing changes and no reply is written.
+    pub fn run(self, bytes: &[u8], most: u32, replies: &mut [u32]) -> Ran
         ensures { λ r. ⌜ r ≡ ran self (now (bytes .entry)) most ⌝ }
+        ensures { λ _. ⌜ now (replies .exit) ≡ ranReplies self (now (bytes .entry)) most (now (replies .entry)) ⌝ }
     {
         if tape::is_refused(bytes) {
             return Ran {
@@ -35,19 +40,30 @@ impl Kernel {
         let end = smaller(most, tape::count(bytes));
         if !self.is_sound() {
             return Ran {
-                status: SUCCESS,
+                status: TABLES_UNSOUND,
                 carried: end,
                 kernel: self,
             };
         }
-        let n = end as usize;
         let words = tape::messages(bytes);
         let m = tape::message_count(bytes) as usize;
         let mut k = self;
-        let mut i: usize = 0;
-        while i < n {
-            let r = tape::record_at(bytes, i);
+        let mut i: u32 = 0;
+        while i < end {
+            let r = tape::record_at(bytes, i as usize);
             let a = k.step(r.call, r.caller, r.a, r.b, r.c, r.d, &words[..m]);
+            let next = a.next;
+            let given = a.words;
+            put_reply(
+                replies,
+                i,
+                Reply {
+                    status: a.status,
+                    words: given,
+                    next: next.0 as u32,
+                    ended: a.ended,
+                },
+            );
             i += 1;
             let after = a.kernel;
             k = after;

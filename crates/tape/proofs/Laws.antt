@@ -1,2 +1,3 @@
 pub mod Tapes
 pub mod Cases
+pub mod Replies

@@ -4,6 +4,8 @@ ghost use lib.ListN.{getD};
 ghost use Rattle.lines.specs.Lines.{pad};
 ghost use Rattle.tape.specs.Tapes.{wordAt, recordsEnd, refusedb, countOf, messageCountOf, recordAt, mostMessageWords, messagesOf};
 
+pub mod replies;
+
 // The sizes of the tape's parts in bytes, and its limits.
 pub const WORD_BYTES: usize = 4;
 

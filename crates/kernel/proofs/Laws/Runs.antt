@@ -4,8 +4,8 @@ use mathlib.Core.List.{List, [], _∷_, _++_}
 use Prim.Native.Nat.{ℕ, _+_, _<_, min}
 use native.Mathlib.Omega.{arith}
 use native.Mathlib.Numerals.{add-one}
-use lib.ListN.{take, getD}
-use lib.Seq.{take-suc, take-all}
+use lib.ListN.{length, take, getD}
+use lib.Seq.{take-suc, take-all, length-take-le}
 use lib.Dec.{ltb}
 use borrow.Author.Tests.{ltb-true, ltb-false}
 use Rattle.lines.proofs.Laws.Logic.{by-test}
@@ -13,12 +13,14 @@ use Rattle.tape.specs.declared.Record.{Record}
 use Rattle.tape.specs.Tapes.{noRecord, countOf, recordAt, recordsOf}
 use Rattle.tape.proofs.Laws.Tapes.{length-records, record-in}
 use Rattle.kernel.specs.declared.Kernel.{Kernel}
+use Rattle.kernel.specs.declared.Answer.{Answer}
 use Rattle.lines.specs.Logic.{if_then_else_}
 use mathlib.Core.Bool.{Bool, false}
 use Rattle.kernel.specs.Answers.{answerOf}
 use Rattle.kernel.specs.General.{step, unsound, call}
 use Rattle.kernel.specs.Sound.{soundb, Sound}
-use Rattle.kernel.specs.Runs.{afterRecord, afterRecords}
+use Rattle.tape.specs.Replies.{replied}
+use Rattle.kernel.specs.Runs.{afterRecord, afterRecords, replyOf, replyTo, repliedAll}
 use Rattle.kernel.proofs.Laws.Sound.{passes}
 
 after-last : (k : Kernel) (ms : List ℕ) (rs : List Record) (r : Record) → afterRecords k ms (rs ++ (r ∷ [])) ≡ afterRecord (afterRecords k ms rs) ms r
@@ -59,3 +61,30 @@ unsound-all k ms (r ∷ rs) e = ap (λ (x : Kernel). afterRecords x ms rs) (unso
 pub sound-record : (k : Kernel) (ms : List ℕ) (r : Record) → Sound k → step k (r .call) (r .caller) (r .a) (r .b) (r .c) (r .d) ms .kernel ≡ afterRecord k ms r
 unfolding afterRecord call answerOf
 sound-record k ms r S = sym (ap (λ (b : Bool). (if b then answerOf (step k (r .call) (r .caller) (r .a) (r .b) (r .c) (r .d) ms) else unsound k) .kernel) (passes k S))
+
+-- ---- replies
+-- the last reply stands behind the others
+replied-last : (k : Kernel) (ms : List ℕ) (rs : List Record) (r : Record) (i : ℕ) (out : List ℕ)
+    → repliedAll k ms (rs ++ (r ∷ [])) i out ≡ replied (repliedAll k ms rs i out) (length rs + i) (replyTo (afterRecords k ms rs) ms r)
+unfolding afterRecords repliedAll
+replied-last k ms [] r i out = ap (λ (n : ℕ). replied out n (replyTo k ms r)) (let e : i ≡ 0 + i = omega arith in e)
+replied-last k ms (x ∷ rs) r i out =
+    replied-last (afterRecord k ms x) ms rs r (i + 1) (replied out i (replyTo k ms x))
+    ∙ ap (λ (n : ℕ). replied (repliedAll (afterRecord k ms x) ms rs (i + 1) (replied out i (replyTo k ms x))) n (replyTo (afterRecords (afterRecord k ms x) ms rs) ms r)) (omega arith)
+
+-- one record more of a tape
+pub replied-more : (k : Kernel) (ms bytes : List ℕ) (i : ℕ) (out : List ℕ) → i < countOf bytes
+    → repliedAll k ms (take (i + 1) (recordsOf bytes)) 0 out
+    ≡ replied (repliedAll k ms (take i (recordsOf bytes)) 0 out) i (replyTo (afterRecords k ms (take i (recordsOf bytes))) ms (recordAt bytes i))
+replied-more k ms bytes i out h =
+    let n = length-records bytes in
+    let l : length (take i (recordsOf bytes)) + 0 ≡ i = (let t = length-take-le i (recordsOf bytes) (omega (arith, n, h)) in omega (arith, t)) in
+    rw add-one
+    (ap (λ (rs : List Record). repliedAll k ms rs 0 out) (take-suc (recordsOf bytes) i noRecord (omega (arith, n, h)))
+    ∙ replied-last k ms (take i (recordsOf bytes)) (getD (recordsOf bytes) i noRecord) 0 out
+    ∙ (λ j. replied (repliedAll k ms (take i (recordsOf bytes)) 0 out) (l j) (replyTo (afterRecords k ms (take i (recordsOf bytes))) ms (record-in bytes i noRecord h j))))
+
+-- on sound tables the reply is the step's
+pub sound-reply : (k : Kernel) (ms : List ℕ) (r : Record) → Sound k → replyOf (answerOf (step k (r .call) (r .caller) (r .a) (r .b) (r .c) (r .d) ms)) ≡ replyTo k ms r
+unfolding replyTo call
+sound-reply k ms r S = sym (ap (λ (b : Bool). replyOf (if b then answerOf (step k (r .call) (r .caller) (r .a) (r .b) (r .c) (r .d) ms) else unsound k)) (passes k S))
