@@ -1,0 +1,84 @@
+use mathlib.Core.Path.{refl, sym, ap, _∙_}
+use Prim.Native.Nat.{_-_}
+use borrow.Author.Needs.{needs}
+use borrow.Author.Tests.{eq-eqb, ne-eqb}
+use Rattle.apachimo.specs.Bytes.{bytesOf}
+use Rattle.apachimo.specs.Library.{callReply, callBlock}
+use Rattle.kernel.specs.Claims.{doneb}
+use Rattle.apachimo.proofs.Laws.Library.{block-sized}
+use Rattle.kernel.specs.declared.Kernel.{Kernel}
+use Rattle.kernel.specs.declared.Answer.{Answer}
+use Rattle.kernel.specs.General.{call}
+use Rattle.kernel.specs.Runs.{replyOf}
+use Rattle.apachimo.proofs.apachimo_call.Statement.{statement}
+use Rattle.apachimo.proofs.apachimo_call.Tie as tie
+
+block-refusal-requires : tie.Need-block-refusal-requires
+block-refusal-requires c κs = search needs
+
+no-reply-requires : tie.Need-no-reply-requires
+no-reply-requires c κs = search needs
+
+same-length : tie.Need-same-length
+same-length c = search needs
+
+returns : tie.Need-returns
+unfolding callReply callBlock
+returns c = rw (← c .before .before .block-refusal .ensures, ne-eqb (c .before .before .block-refusal .result) 0 (c .before .if1 .taken)) (c .no-reply .ensures, refl)
+
+kernel-of-requires : tie.Need-kernel-of-requires
+kernel-of-requires c κs = block-sized (c .before .before .before .before .before .before .args .state .now) (sym (c .before .before .block-refusal .ensures) ∙ c .before .if1 .left)
+
+call-requires : tie.Need-call-requires
+call-requires c κs = search needs
+
+cast-t21 : tie.Need-cast-t21
+cast-t21 c = search needs
+
+is-done-requires : tie.Need-is-done-requires
+is-done-requires c κs = search needs
+
+put-kernel-requires : tie.Need-put-kernel-requires
+put-kernel-requires c κs = block-sized (c .before .before .before .before .before .before .before .before .before .before .before .before .before .before .before .args .state .now) (sym (c .before .before .before .before .before .before .before .before .before .before .before .block-refusal .ensures) ∙ c .before .before .before .before .before .before .before .before .before .before .if1 .left)
+
+same-length-2 : tie.Need-same-length-2
+same-length-2 c = search needs
+
+returns-2 : tie.Need-returns-2
+unfolding callReply callBlock replyOf
+returns-2 c =
+    let a = c .before .before .before .before .before .before .before .before .before .before .before .before .before .before .before .before .before .before .args in
+    let b = c .before .before .before .before .before .before .before .before .before .before .before .before .before .before .before .before .before .before .args .state .now in
+    let e = c .before .before .before .before .before .before .before .before .before .before .call .ensures ∙ ap (λ (k : Kernel). call k (a .number) (a .caller) (a .a) (a .b) (a .c) (a .d) (a .messages .now)) (c .before .before .before .before .before .before .before .before .before .before .before .kernel-of .ensures) in
+    let t = sym (ap (λ (x : Answer). doneb (x .status)) e) ∙ sym (c .before .before .before .before .before .before .is-done .ensures) ∙ c .before .before .before .before .before .if2 .taken in
+    rw (← c .before .before .before .before .before .before .before .before .before .before .before .before .before .before .block-refusal .ensures, eq-eqb (c .before .before .before .before .before .before .before .before .before .before .before .before .before .before .block-refusal .result) 0 (c .before .before .before .before .before .before .before .before .before .before .before .before .before .if1 .left), t) (ap replyOf e, c .before .before .put-kernel .ensures ∙ ap (λ (x : Answer). bytesOf (x .kernel)) e)
+
+same-length-3 : tie.Need-same-length-3
+same-length-3 c = search needs
+
+returns-3 : tie.Need-returns-3
+unfolding callReply callBlock replyOf
+returns-3 c =
+    let a = c .before .before .before .before .before .before .before .before .before .before .before .before .before .args in
+    let b = c .before .before .before .before .before .before .before .before .before .before .before .before .before .args .state .now in
+    let e = c .before .before .before .before .before .call .ensures ∙ ap (λ (k : Kernel). call k (a .number) (a .caller) (a .a) (a .b) (a .c) (a .d) (a .messages .now)) (c .before .before .before .before .before .before .kernel-of .ensures) in
+    let t = sym (ap (λ (x : Answer). doneb (x .status)) e) ∙ sym (c .before .is-done .ensures) ∙ c .if2 .left in
+    rw (← c .before .before .before .before .before .before .before .before .before .block-refusal .ensures, eq-eqb (c .before .before .before .before .before .before .before .before .before .block-refusal .result) 0 (c .before .before .before .before .before .before .before .before .if1 .left), t) (ap replyOf e, refl)
+
+pub apachimo-call-spec : {M : Type 1} → statement M
+apachimo-call-spec =
+    tie.close
+    (tie.spec
+    block-refusal-requires
+    no-reply-requires
+    same-length
+    returns
+    kernel-of-requires
+    call-requires
+    cast-t21
+    is-done-requires
+    put-kernel-requires
+    same-length-2
+    returns-2
+    same-length-3
+    returns-3)
