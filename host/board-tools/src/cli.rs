@@ -1,7 +1,8 @@
 //! The command line.
 
+use crate::bench;
 use crate::check::Tally;
-use crate::compare::{compare_bytes, Inspect};
+use crate::compare::{compare_bytes, Inspect, Proved};
 use crate::ended::Reason;
 use crate::exercises::{find, symptom, STUDENT_ERRORS};
 use crate::fuzz::{fuzz, Found, Options as FuzzOptions};
@@ -29,19 +30,26 @@ usage: board-tools COMMAND ARGUMENTS
                                that changed, --lanes draws one lane a thread
   replay TAPE                  print what the program `replay` prints
   inspect TAPE                 print what the program `inspect` prints
-  compare [--inspect PROGRAM] TAPE...
+  compare [--inspect PROGRAM | --library] TAPE...
                                run tapes through the proved `inspect` and the
                                ordinary kernel; stop at the first difference
-  fuzz SEED COUNT [--records N] [--from N] [--inspect PROGRAM | --alone]
-       [--out FOLDER]          make COUNT tapes of N records (300), check them,
+  fuzz SEED COUNT [--records N] [--from N] [--out FOLDER]
+       [--inspect PROGRAM | --library | --alone]
+                               make COUNT tapes of N records (300), check them,
                                compare them with the proved `inspect` if it is
                                there, and shrink the first one that fails
   exercises SEED [--out FOLDER]
                                find a short tape for each student error
+  bench [--rounds N] [--svg FILE.svg] [--smoke]
+                               measure 1,600 mixed calls through the proved
+                               library and the ordinary kernel, in N rounds
+                               (200); --svg draws the quotients, --smoke only
+                               checks both sides and measures three rounds
 
 Where a TAPE is read, a readable text will do too; `-` is standard input.
 Without -o, assemble and list write to standard output.
 The proved `inspect` is looked for as target/bin/inspect in the folders above.
+With --library the proved library is called in this process instead.
 
 exit status: 0 done, 1 a difference or failed check, 2 bad input or usage
 ";
@@ -85,12 +93,15 @@ fn command(args: &[String]) -> Done {
         "run" => run_command(&Arguments::parse(rest, &["--lanes"], &["--tables"])?),
         "replay" => print_command(&Arguments::parse(rest, &[], &[])?, print::replay),
         "inspect" => print_command(&Arguments::parse(rest, &[], &[])?, print::inspect),
-        "compare" => compare_command(&Arguments::parse(rest, &["--inspect"], &[])?),
+        "compare" => compare_command(&Arguments::parse(rest, &["--inspect"], &["--library"])?),
         "fuzz" => {
             let options = ["--records", "--from", "--inspect", "--out"];
-            fuzz_command(&Arguments::parse(rest, &options, &["--alone"])?)
+            fuzz_command(&Arguments::parse(rest, &options, &["--alone", "--library"])?)
         }
         "exercises" => exercises_command(&Arguments::parse(rest, &["--out"], &[])?),
+        "bench" => {
+            bench_command(&Arguments::parse(rest, &["--rounds", "--svg", "--count"], &["--smoke"])?)
+        }
         "help" | "--help" | "-h" => write_out(HELP.as_bytes()),
         other => bad(format!("unknown command `{other}`\n\n{HELP}")),
     }
@@ -281,10 +292,12 @@ fn print_command(args: &Arguments, form: fn(&[u8]) -> String) -> Done {
     write_out(form(&bytes).as_bytes())
 }
 
-fn proved_program(args: &Arguments) -> Result<Inspect, String> {
-    match args.option("--inspect") {
-        Some(path) => Inspect::at(Path::new(path)),
-        None => Inspect::find(),
+fn proved_side(args: &Arguments) -> Result<Proved, String> {
+    match (args.flag("--library"), args.option("--inspect")) {
+        (true, Some(_)) => Err("--inspect and --library exclude each other".to_string()),
+        (true, None) => Ok(Proved::Library),
+        (false, Some(path)) => Inspect::at(Path::new(path)).map(Proved::from),
+        (false, None) => Inspect::find().map(Proved::from),
     }
 }
 
@@ -292,17 +305,17 @@ fn compare_command(args: &Arguments) -> Done {
     if args.plain.is_empty() {
         return bad("expected one tape or more");
     }
-    let inspect = proved_program(args).map_err(Stop::Bad)?;
+    let proved = proved_side(args).map_err(Stop::Bad)?;
     for name in &args.plain {
-        compare_input(&inspect, name)?;
+        compare_input(&proved, name)?;
     }
     Ok(())
 }
 
-fn compare_input(inspect: &Inspect, name: &str) -> Done {
+fn compare_input(proved: &Proved, name: &str) -> Done {
     let bytes = read_input(name)?;
     if Tape::decode(&bytes).is_err() && !looks_like_text(&bytes) {
-        return match compare_bytes(inspect, &bytes).map_err(Stop::Bad)? {
+        return match compare_bytes(proved, &bytes).map_err(Stop::Bad)? {
             None => write_out(format!("{name}: no difference, both refuse it\n").as_bytes()),
             Some(difference) => {
                 Err(Stop::Found(format!("{name}: only one side refuses it\n{difference}")))
@@ -310,7 +323,7 @@ fn compare_input(inspect: &Inspect, name: &str) -> Done {
         };
     }
     let (tape, _) = to_tape(name, &bytes)?;
-    match compare_bytes(inspect, &tape.encode()).map_err(Stop::Bad)? {
+    match compare_bytes(proved, &tape.encode()).map_err(Stop::Bad)? {
         None => {
             let records = tape.records.len();
             write_out(format!("{name}: no difference in {records} records\n").as_bytes())
@@ -335,7 +348,7 @@ fn fuzz_command(args: &Arguments) -> Done {
         from: args.number("--from", 0)?,
         count: parse_number("COUNT", count)?,
         records: records as usize,
-        inspect: fuzz_partner(args)?,
+        proved: fuzz_partner(args)?,
     };
     let mut progress = Progress::new(options.count);
     match fuzz(&options, &mut |done, tally| progress.tell(done, tally)).map_err(Stop::Bad)? {
@@ -347,17 +360,21 @@ fn fuzz_command(args: &Arguments) -> Done {
     }
 }
 
-/// The proved program to compare with, if any. One that is named must be there.
-fn fuzz_partner(args: &Arguments) -> Result<Option<Inspect>, Stop> {
+/// The proved side to compare with, if any. One that is named must be there.
+fn fuzz_partner(args: &Arguments) -> Result<Option<Proved>, Stop> {
+    let named = args.option("--inspect").is_some() || args.flag("--library");
     if args.flag("--alone") {
-        return Ok(None);
+        return match named {
+            true => bad("--alone excludes --inspect and --library"),
+            false => Ok(None),
+        };
     }
-    match proved_program(args) {
-        Ok(inspect) => {
-            eprintln!("comparing with {}", inspect.path().display());
-            Ok(Some(inspect))
+    match proved_side(args) {
+        Ok(proved) => {
+            eprintln!("comparing with {proved}");
+            Ok(Some(proved))
         }
-        Err(message) if args.option("--inspect").is_some() => Err(Stop::Bad(message)),
+        Err(message) if named => Err(Stop::Bad(message)),
         Err(message) => {
             eprintln!("not comparing: {message}");
             Ok(None)
@@ -399,8 +416,9 @@ fn fuzz_report(options: &FuzzOptions, tally: &Tally) -> String {
         ));
     }
     out.push_str(&ended_report(tally));
-    let compared = match options.inspect {
-        Some(_) => "compared with the proved program, no difference",
+    let compared = match options.proved {
+        Some(Proved::Program(_)) => "compared with the proved program, no difference",
+        Some(Proved::Library) => "compared with the proved library, no difference",
         None => "not compared with the proved program",
     };
     out.push_str(&format!(
@@ -491,4 +509,27 @@ fn outcome_text(outcome: &ordinary::Outcome) -> String {
     let mut text = String::new();
     print::result(&mut text, outcome);
     text.trim_end().to_string()
+}
+
+/// Most rounds of a measurement: their times fit into memory.
+const MOST_ROUNDS: u64 = 10_000;
+
+fn bench_command(args: &Arguments) -> Done {
+    if !args.plain.is_empty() {
+        return bad("bench takes only options");
+    }
+    // Not in the help: this program under callgrind.
+    if let Some(side) = args.option("--count") {
+        return bench::count(side).map_err(Stop::Bad);
+    }
+    let smoke = args.flag("--smoke");
+    let rounds = args.number("--rounds", if smoke { 3 } else { 200 })?;
+    if !(1..=MOST_ROUNDS).contains(&rounds) {
+        return bad(format!("--rounds must be 1 to {MOST_ROUNDS}"));
+    }
+    let report = bench::measure(rounds as usize, !smoke).map_err(Stop::Found)?;
+    if let Some(path) = args.option("--svg") {
+        write_file(Path::new(path), bench::chart::draw(&report).as_bytes())?;
+    }
+    write_out(report.text().as_bytes())
 }

@@ -1,5 +1,7 @@
-//! Comparison of the proved program `inspect` with the ordinary kernel.
+//! Comparison of the proved program `inspect`, or of the proved library, with
+//! the ordinary kernel.
 
+use crate::library;
 use crate::text::list::call_text;
 use ordinary::{print, Tape};
 use std::fmt;
@@ -69,6 +71,42 @@ impl Inspect {
     }
 }
 
+/// The proved side of a comparison.
+#[derive(Clone, Debug)]
+pub enum Proved {
+    /// The program `inspect`, one process a tape.
+    Program(Inspect),
+    /// The library, in this process.
+    Library,
+}
+
+impl Proved {
+    /// What the proved side prints for a tape.
+    fn run(&self, bytes: &[u8]) -> Result<String, String> {
+        match self {
+            Proved::Program(inspect) => inspect
+                .run(bytes)
+                .map_err(|error| format!("cannot run {}: {error}", inspect.path.display())),
+            Proved::Library => Ok(library::inspect(bytes)),
+        }
+    }
+}
+
+impl fmt::Display for Proved {
+    fn fmt(&self, f: &mut fmt::Formatter<'_>) -> fmt::Result {
+        match self {
+            Proved::Program(inspect) => inspect.path.display().fmt(f),
+            Proved::Library => f.write_str("the library"),
+        }
+    }
+}
+
+impl From<Inspect> for Proved {
+    fn from(inspect: Inspect) -> Proved {
+        Proved::Program(inspect)
+    }
+}
+
 /// The first place where the two sides differ.
 #[derive(Clone, PartialEq, Eq, Debug)]
 pub struct Difference {
@@ -133,14 +171,11 @@ fn record_index(line: &str) -> Option<usize> {
 }
 
 /// Compares both sides on a tape.
-pub fn compare(inspect: &Inspect, tape: &Tape) -> Result<Option<Difference>, String> {
-    compare_bytes(inspect, &tape.encode())
+pub fn compare(proved: &Proved, tape: &Tape) -> Result<Option<Difference>, String> {
+    compare_bytes(proved, &tape.encode())
 }
 
 /// Compares both sides on any bytes.
-pub fn compare_bytes(inspect: &Inspect, bytes: &[u8]) -> Result<Option<Difference>, String> {
-    let proved = inspect
-        .run(bytes)
-        .map_err(|error| format!("cannot run {}: {error}", inspect.path.display()))?;
-    Ok(first_difference(&print::inspect(bytes), &proved))
+pub fn compare_bytes(proved: &Proved, bytes: &[u8]) -> Result<Option<Difference>, String> {
+    Ok(first_difference(&print::inspect(bytes), &proved.run(bytes)?))
 }

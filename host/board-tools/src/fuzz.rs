@@ -1,7 +1,7 @@
 //! Fuzzing: many generated tapes, checked and compared.
 
 use crate::check::{check_tape, Tally};
-use crate::compare::{compare, Inspect};
+use crate::compare::{compare, Proved};
 use crate::generate::generate;
 use crate::rng::Rng;
 use crate::shrink::shrink;
@@ -15,7 +15,8 @@ pub struct Options {
     pub from: u64,
     pub count: u64,
     pub records: usize,
-    pub inspect: Option<Inspect>,
+    /// What to compare with, if anything.
+    pub proved: Option<Proved>,
 }
 
 /// A tape on which something failed, shrunk.
@@ -34,17 +35,17 @@ pub fn tape_seed(seed: u64, number: u64) -> u64 {
 
 /// Fuzzes; `progress` is told after each tape how many are done. Gives a
 /// tally of all calls, or the first failure. An error is one of running the
-/// proved program at all.
+/// proved side at all.
 pub fn fuzz(
     options: &Options,
     progress: &mut dyn FnMut(u64, &Tally),
 ) -> Result<Result<Tally, Found>, String> {
-    let inspect = options.inspect.as_ref();
+    let proved = options.proved.as_ref();
     let mut tally = Tally::default();
     for number in options.from..options.from + options.count {
         let tape = generate(tape_seed(options.seed, number), options.records);
-        if let Some(what) = failure(inspect, &tape, &mut tally)? {
-            return Ok(Err(shrink_failure(inspect, number, &tape, what)));
+        if let Some(what) = failure(proved, &tape, &mut tally)? {
+            return Ok(Err(shrink_failure(proved, number, &tape, what)));
         }
         progress(number + 1 - options.from, &tally);
     }
@@ -53,19 +54,19 @@ pub fn fuzz(
 
 /// What is wrong with a tape's run, if anything.
 fn failure(
-    inspect: Option<&Inspect>,
+    proved: Option<&Proved>,
     tape: &Tape,
     tally: &mut Tally,
 ) -> Result<Option<String>, String> {
     if let Err(failure) = check_tape(tape, tally) {
         return Ok(Some(format!("record {}: {}", failure.record, failure.what)));
     }
-    let Some(inspect) = inspect else { return Ok(None) };
-    Ok(compare(inspect, tape)?.map(|difference| difference.describe(tape)))
+    let Some(proved) = proved else { return Ok(None) };
+    Ok(compare(proved, tape)?.map(|difference| difference.describe(tape)))
 }
 
-fn shrink_failure(inspect: Option<&Inspect>, number: u64, tape: &Tape, what: String) -> Found {
-    let fails = |tape: &Tape| failure(inspect, tape, &mut Tally::default());
+fn shrink_failure(proved: Option<&Proved>, number: u64, tape: &Tape, what: String) -> Found {
+    let fails = |tape: &Tape| failure(proved, tape, &mut Tally::default());
     let short = shrink(tape, &mut |tape| matches!(fails(tape), Ok(Some(_))));
     let what = match fails(&short) {
         Ok(Some(what)) => what,

@@ -1,6 +1,7 @@
 //! Host tools for call tapes: readable text, runs as tables and pictures,
-//! comparison with the proved library, and fuzzing.
+//! comparison with the proved library, fuzzing, and measurement.
 
+pub mod bench;
 pub mod check;
 pub mod cli;
 pub mod compare;
@@ -9,6 +10,7 @@ pub mod exercises;
 pub mod fuzz;
 pub mod generate;
 pub mod lanes;
+pub mod library;
 pub mod names;
 pub mod rng;
 pub mod show;

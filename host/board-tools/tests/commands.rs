@@ -197,6 +197,8 @@ fn usage_errors() {
     assert_bad_input(&["fuzz", "1", "1", "--inspect", "nowhere"], b"", "no proved program at");
     assert_bad_input(&["compare", "--inspect", "nowhere", "-"], b"", "no proved program at");
     assert_bad_input(&["compare"], b"", "expected one tape or more");
+    assert_bad_input(&["compare", "--library", "--inspect", "x", "-"], b"", "exclude each other");
+    assert_bad_input(&["fuzz", "1", "1", "--library", "--alone"], b"", "--alone excludes");
 }
 
 #[test]
@@ -204,8 +206,9 @@ fn help() {
     let output = run(&["--help"], b"");
     assert!(output.status.success());
     let help = String::from_utf8(output.stdout).unwrap();
-    for command in ["assemble", "list", "run", "replay", "inspect", "compare", "fuzz", "exercises"]
-    {
+    let commands =
+        ["assemble", "list", "run", "replay", "inspect", "compare", "fuzz", "exercises", "bench"];
+    for command in commands {
         assert!(help.contains(&format!("\n  {command} ")), "{command}");
     }
 }
@@ -216,4 +219,23 @@ fn fuzz_alone() {
     assert!(output.status.success());
     let report = String::from_utf8(output.stdout).unwrap();
     assert!(report.contains("hold after each of 2000 calls"), "{report}");
+}
+
+#[test]
+fn compare_through_the_library() {
+    let tape = generate(31, 120).encode();
+    let output = run(&["compare", "--library", "-"], &tape);
+    assert!(output.status.success(), "{}", String::from_utf8_lossy(&output.stderr));
+    assert_eq!(output.stdout, b"-: no difference in 120 records\n");
+    let refused = run(&["compare", "--library", "-"], &tape[..tape.len() - 1]);
+    assert_eq!(refused.stdout, b"-: no difference, both refuse it\n");
+}
+
+#[test]
+fn fuzz_through_the_library() {
+    let output = run(&["fuzz", "8", "20", "--records", "150", "--library"], b"");
+    let report = String::from_utf8(output.stdout).unwrap();
+    assert!(output.status.success(), "{report}");
+    assert!(report.contains("hold after each of 3000 calls"), "{report}");
+    assert!(report.contains("compared with the proved library, no difference"), "{report}");
 }

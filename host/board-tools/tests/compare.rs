@@ -3,7 +3,7 @@
 #![cfg(unix)]
 
 use board_tools::check::{check_tape, Tally};
-use board_tools::compare::{compare, compare_bytes, first_difference, Inspect};
+use board_tools::compare::{compare, compare_bytes, first_difference, Inspect, Proved};
 use board_tools::fuzz::{fuzz, Options};
 use board_tools::generate::generate;
 use board_tools::rng::Rng;
@@ -33,7 +33,7 @@ fn stand_in(name: &str, filter: &str) -> Inspect {
 }
 
 fn fuzz_options(inspect: Inspect) -> Options {
-    Options { seed: 4, from: 0, count: 15, records: 200, inspect: Some(inspect) }
+    Options { seed: 4, from: 0, count: 15, records: 200, proved: Some(inspect.into()) }
 }
 
 #[test]
@@ -127,7 +127,7 @@ fn the_commands_stop_at_a_difference() {
 #[test]
 fn a_program_that_fails_is_an_error() {
     let inspect = stand_in("failing", "(cat > /dev/null; echo broken >&2; exit 3)");
-    let error = compare(&inspect, &Tape::default()).unwrap_err();
+    let error = compare(&inspect.into(), &Tape::default()).unwrap_err();
     assert!(error.contains("broken"), "{error}");
     assert!(error.contains('3'), "{error}");
 }
@@ -151,14 +151,14 @@ fn build_proved() -> Result<(), String> {
 /// The proved program, built once for all tests. Without the Rattle toolchain
 /// there may be none: the notice of that goes past the test harness, which
 /// would keep it to itself.
-fn proved(test: &str) -> Option<Inspect> {
+fn proved(test: &str) -> Option<Proved> {
     static BUILT: OnceLock<Result<(), String>> = OnceLock::new();
     let has_toolchain = Command::new("rt").arg("version").output().is_ok();
     if has_toolchain {
         BUILT.get_or_init(build_proved).as_ref().expect("the proved program can be built");
     }
     match Inspect::find() {
-        Ok(inspect) => Some(inspect),
+        Ok(inspect) => Some(inspect.into()),
         Err(message) => {
             let notice = format!("{test} skipped: {message}\n");
             std::io::stderr().write_all(notice.as_bytes()).unwrap();
@@ -167,10 +167,8 @@ fn proved(test: &str) -> Option<Inspect> {
     }
 }
 
-#[test]
-fn the_proved_program_agrees_on_generated_tapes() {
-    let Some(inspect) = proved("comparison on generated tapes") else { return };
-    let options = Options { seed: 2, from: 0, count: 25, records: 300, inspect: Some(inspect) };
+fn assert_agrees_on_generated_tapes(proved: Proved) {
+    let options = Options { seed: 2, from: 0, count: 25, records: 300, proved: Some(proved) };
     if let Err(found) = fuzz(&options, &mut |_, _| {}).unwrap() {
         panic!("{:?}\n{}", found.tape, found.what);
     }
@@ -193,22 +191,19 @@ fn stored_tapes(folder: &str) -> Vec<(PathBuf, Tape)> {
         .collect()
 }
 
-#[test]
-fn the_proved_program_agrees_on_the_stored_tapes() {
-    let Some(inspect) = proved("comparison on the stored tapes") else { return };
+fn assert_agrees_on_the_stored_tapes(proved: &Proved) {
     for folder in ["tapes", "tapes/exercises"] {
         let tapes = stored_tapes(folder);
         assert!(tapes.len() > 5, "{} tapes in {folder}", tapes.len());
         for (path, tape) in tapes {
-            assert_eq!(compare(&inspect, &tape).unwrap(), None, "{}", path.display());
+            assert_eq!(compare(proved, &tape).unwrap(), None, "{}", path.display());
             assert_eq!(check_tape(&tape, &mut Tally::default()), Ok(()), "{}", path.display());
         }
     }
 }
 
-#[test]
-fn the_proved_program_agrees_on_hostile_bytes() {
-    let Some(inspect) = proved("comparison on hostile bytes") else { return };
+/// Bytes most of which are no tape.
+fn hostile_bytes() -> Vec<Vec<u8>> {
     let good = generate(6, 10).encode();
     let mut rng = Rng::new(5);
     let mut cases: Vec<Vec<u8>> = vec![Vec::new(), good[..15].to_vec(), good[..40].to_vec()];
@@ -224,15 +219,61 @@ fn the_proved_program_agrees_on_hostile_bytes() {
         let header = [n, 16, m, 24u32.wrapping_mul(n).wrapping_add(16)];
         cases.push(header.map(u32::to_le_bytes).concat());
     }
-    for bytes in cases {
-        assert_eq!(compare_bytes(&inspect, &bytes).unwrap(), None, "{bytes:?}");
+    cases
+}
+
+fn assert_agrees_on_hostile_bytes(proved: &Proved) {
+    for bytes in hostile_bytes() {
+        assert_eq!(compare_bytes(proved, &bytes).unwrap(), None, "{bytes:?}");
     }
+}
+
+fn assert_agrees_on_the_largest_tape(proved: &Proved) {
+    let filler = Record { call: 13, caller: 1, args: [0; 4] };
+    let tape = Tape { records: vec![filler; 2048], words: vec![0xFFFF_FFFF; 4000] };
+    assert_eq!(compare(proved, &tape).unwrap(), None);
+}
+
+#[test]
+fn the_proved_program_agrees_on_generated_tapes() {
+    let Some(proved) = proved("comparison on generated tapes") else { return };
+    assert_agrees_on_generated_tapes(proved);
+}
+
+#[test]
+fn the_proved_program_agrees_on_the_stored_tapes() {
+    let Some(proved) = proved("comparison on the stored tapes") else { return };
+    assert_agrees_on_the_stored_tapes(&proved);
+}
+
+#[test]
+fn the_proved_program_agrees_on_hostile_bytes() {
+    let Some(proved) = proved("comparison on hostile bytes") else { return };
+    assert_agrees_on_hostile_bytes(&proved);
 }
 
 #[test]
 fn the_proved_program_agrees_on_the_largest_tape() {
-    let Some(inspect) = proved("comparison on the largest tape") else { return };
-    let filler = Record { call: 13, caller: 1, args: [0; 4] };
-    let tape = Tape { records: vec![filler; 2048], words: vec![0xFFFF_FFFF; 4000] };
-    assert_eq!(compare(&inspect, &tape).unwrap(), None);
+    let Some(proved) = proved("comparison on the largest tape") else { return };
+    assert_agrees_on_the_largest_tape(&proved);
+}
+
+#[test]
+fn the_library_agrees_on_generated_tapes() {
+    assert_agrees_on_generated_tapes(Proved::Library);
+}
+
+#[test]
+fn the_library_agrees_on_the_stored_tapes() {
+    assert_agrees_on_the_stored_tapes(&Proved::Library);
+}
+
+#[test]
+fn the_library_agrees_on_hostile_bytes() {
+    assert_agrees_on_hostile_bytes(&Proved::Library);
+}
+
+#[test]
+fn the_library_agrees_on_the_largest_tape() {
+    assert_agrees_on_the_largest_tape(&Proved::Library);
 }

@@ -84,8 +84,8 @@ fn the_sample_tapes_have_the_stated_calls() {
 #[test]
 fn the_stored_outputs_are_what_the_ordinary_kernel_prints() {
     let folder = PathBuf::from(env!("CARGO_MANIFEST_DIR")).join("../../crates");
-    let programs: [(&str, fn(&[u8]) -> String); 2] =
-        [("inspect", print::inspect), ("replay", print::replay)];
+    type Program = fn(&[u8]) -> String;
+    let programs: [(&str, Program); 2] = [("inspect", print::inspect), ("replay", print::replay)];
     for (name, prints) in programs {
         let tape = fs::read(folder.join(name).join("stdin")).unwrap();
         let stored = fs::read_to_string(folder.join(name).join("stdout")).unwrap();

@@ -8,7 +8,7 @@ use ordinary::{Record, State, Status, Tables};
 use std::collections::BTreeMap;
 
 fn short_fuzz(seed: u64, count: u64, records: usize) -> Tally {
-    let options = Options { seed, from: 0, count, records, inspect: None };
+    let options = Options { seed, from: 0, count, records, proved: None };
     match fuzz(&options, &mut |_, _| {}).unwrap() {
         Ok(tally) => tally,
         Err(found) => panic!("tape {}: {}\n{:?}", found.number, found.what, found.tape),
