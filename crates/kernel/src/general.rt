@@ -1,7 +1,7 @@
 // The general call: a number, a caller and four arguments.
 ghost use mathlib.Core.Path.{_≡_};
 ghost use Rattle.kernel.specs.Answers.{answerOf};
-ghost use Rattle.kernel.specs.General.{service, step, call};
+ghost use Rattle.kernel.specs.General.{step, call};
 use super::Answer;
 use super::Kernel;
 use calls::call::Call;
@@ -15,10 +15,29 @@ use lines::NOBODY;
 use lines::ThreadId;
 
 impl Kernel {
-    // A known call by a known caller.
-    fn service(self, caller: u32, call: Call, messages: &[u32]) -> Answer
-        ensures { λ r. ⌜ r ≡ answerOf (service self caller call (now (messages .entry))) ⌝ }
+    // One call on tables that were tested before. Decoding, the test for a running thread and the choice of the service are one function: each
+    // further one that takes and returns the tables would copy them twice more.
+    pub(crate) fn step(
+        self,
+        number: u32,
+        caller: u32,
+        a: u32,
+        b: u32,
+        c: u32,
+        d: u32,
+        messages: &[u32],
+    ) -> Answer
+        ensures { λ r. ⌜ r ≡ answerOf (step self number caller a b c d (now (messages .entry))) ⌝ }
     {
+        let decoded = decode(number, caller, a, b, c, d);
+        let Decoded::Known(call) = decoded else {
+            return self.refused(UNKNOWN_CALL);
+        };
+        let s = self.scheduler;
+        let r = s.running;
+        if (caller == THREAD) & !(r.0 < 32) {
+            return self.refused(NOBODY_RUNS);
+        }
         match call {
             Call::ThreadCreate(t, priority, threshold, start) => self.thread_create(
                 caller,
@@ -99,31 +118,6 @@ impl Kernel {
             Call::ThreadStateRead(t) => self.thread_state_read(t),
             Call::ThreadWordsRead(t) => self.thread_words_read(t),
         }
-    }
-
-    // One call on tables that were tested before.
-    pub(crate) fn step(
-        self,
-        number: u32,
-        caller: u32,
-        a: u32,
-        b: u32,
-        c: u32,
-        d: u32,
-        messages: &[u32],
-    ) -> Answer
-        ensures { λ r. ⌜ r ≡ answerOf (step self number caller a b c d (now (messages .entry))) ⌝ }
-    {
-        let decoded = decode(number, caller, a, b, c, d);
-        let Decoded::Known(call) = decoded else {
-            return self.refused(UNKNOWN_CALL);
-        };
-        let s = self.scheduler;
-        let r = s.running;
-        if (caller == THREAD) & !(r.0 < 32) {
-            return self.refused(NOBODY_RUNS);
-        }
-        self.service(caller, call, messages)
     }
 
     // One call. `messages` are the lent words that a send takes its message from. Unsound tables are refused.
