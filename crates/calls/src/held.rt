@@ -3,15 +3,16 @@ ghost use mathlib.Core.Path.{_≡_};
 ghost use Rattle.calls.specs.Held.{holding, sending, requesting};
 use super::status::WAITING;
 
-// `sending`, `front` and `message` are a waiting sender's, `request` and `option` those of a thread that waits for flags.
+// `sending`, `front` and `message` are a waiting sender's, `request` and `option` those of a thread that waits for flags. The bytes stand
+// behind the words, so that a record is copied by words throughout.
 pub struct Held {
     pub status: u32,
+    pub request: u32,
     pub words: [u32; 16],
+    pub message: [u32; 16],
     pub sending: bool,
     pub front: bool,
-    pub request: u32,
     pub option: u8,
-    pub message: [u32; 16],
 }
 
 impl Held {
