@@ -1,2 +1,3 @@
 pub mod Tables
 pub mod Library
+pub mod Restored

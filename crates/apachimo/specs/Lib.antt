@@ -2,3 +2,4 @@ pub mod Blocks
 pub mod State
 pub mod Bytes
 pub mod Library
+pub mod Restored
