@@ -4,7 +4,6 @@
 // first, no gaps. Every block is answered: one of another size with 0x05, one that holds no sound tables with 0x100.
 ghost use mathlib.Core.Path.{_≡_};
 ghost use mathlib.Core.Bool.{Bool};
-ghost use Prim.Native.Nat.{min};
 ghost use lib.ListN.{length};
 ghost use Rattle.kernel.specs.Claims.{doneb};
 ghost use Rattle.kernel.specs.General.{call};
@@ -68,13 +67,6 @@ fn is_done(status: u32) -> bool
     (status == SUCCESS) | (status == SUSPEND_LIFTED) | (status == WAITING)
 }
 
-// The smaller of two numbers.
-fn smaller(a: u32, b: u32) -> u32
-    ensures { λ r. ⌜ r ≡ min a b ⌝ }
-{
-    if a < b { a } else { b }
-}
-
 // The reason to refuse a run, 0 where there is none.
 fn run_refusal(state: &[u8], tape: &[u8], most: u32, room: usize) -> u32
     ensures { λ r. ⌜ r ≡ runRefusal (now (state .entry)) (now (tape .entry)) most room ⌝ }
@@ -85,7 +77,7 @@ fn run_refusal(state: &[u8], tape: &[u8], most: u32, room: usize) -> u32
     if tape::is_refused(tape) {
         return TAPE_REFUSED;
     }
-    let n = smaller(most, tape::count(tape));
+    let n = tape::wanted(tape, most);
     if room < REPLY_WORDS * (n as usize) {
         return SIZE_ERROR;
     }
@@ -183,7 +175,7 @@ pub extern "C" fn apachimo_run(state: &mut [u8], tape: &[u8], most: u32, replies
     if reason == TABLES_UNSOUND {
         return Run {
             status: reason,
-            carried: smaller(most, tape::count(tape)),
+            carried: tape::wanted(tape, most),
         };
     }
     if reason != 0 {

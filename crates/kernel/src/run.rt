@@ -1,6 +1,5 @@
 // Runs of call tapes.
 ghost use mathlib.Core.Path.{_≡_};
-ghost use Prim.Native.Nat.{min};
 ghost use Rattle.kernel.specs.Runs.{ran, ranReplies};
 use super::Kernel;
 use calls::status::SUCCESS;
@@ -14,12 +13,6 @@ pub struct Ran {
     pub status: u32,
     pub carried: u32,
     pub kernel: Kernel,
-}
-
-fn smaller(a: u32, b: u32) -> u32
-    ensures { λ r. ⌜ r ≡ min a b ⌝ }
-{
-    if a < b { a } else { b }
 }
 
 impl Kernel {
@@ -37,7 +30,7 @@ impl Kernel {
                 kernel: self,
             };
         }
-        let end = smaller(most, tape::count(bytes));
+        let end = tape::wanted(bytes, most);
         if !self.is_sound() {
             return Ran {
                 status: TABLES_UNSOUND,

@@ -1,5 +1,6 @@
 // The call tape: a header of four words, records of calls, message words. All words are little-endian.
 ghost use mathlib.Core.Path.{_≡_};
+ghost use Prim.Native.Nat.{min};
 ghost use lib.ListN.{getD};
 ghost use Rattle.lines.specs.Lines.{pad};
 ghost use Rattle.tape.specs.Tapes.{wordAt, recordsEnd, refusedb, countOf, messageCountOf, recordAt, mostMessageWords, messagesOf};
@@ -78,6 +79,14 @@ pub fn count(bytes: &[u8]) -> u32
     ensures { λ r. ⌜ r ≡ countOf (now (bytes .entry)) ⌝ }
 {
     if is_refused(bytes) { 0 } else { word(bytes, 0) }
+}
+
+// How many records a run carries out that is given this most number of them.
+pub fn wanted(bytes: &[u8], most: u32) -> u32
+    ensures { λ r. ⌜ r ≡ min most (countOf (now (bytes .entry))) ⌝ }
+{
+    let n = count(bytes);
+    if most < n { most } else { n }
 }
 
 // How many message words there are, 0 in a refused tape.

@@ -35,24 +35,21 @@ returns : tie.Need-returns Inv-loop μ-loop
 unfolding ran ranReplies
 returns c = rw (← c .before .is-refused .ensures, c .if1 .taken) (refl, refl)
 
-count-requires : tie.Need-count-requires Inv-loop μ-loop
-count-requires c κs = search needs
-
-smaller-requires : tie.Need-smaller-requires Inv-loop μ-loop
-smaller-requires c κs = search needs
+wanted-requires : tie.Need-wanted-requires Inv-loop μ-loop
+wanted-requires c κs = search needs
 
 is-sound-requires : tie.Need-is-sound-requires Inv-loop μ-loop
 is-sound-requires c κs = search needs
 
 returns-2 : tie.Need-returns-2 Inv-loop μ-loop
 unfolding ran ranReplies
-returns-2 c =
-    let a = c .before .before .before .before .before .before .before .before .args in
-    let b = c .before .before .before .before .before .before .before .before .args .bytes .now in
-    let s : c .before .before .smaller .result ≡ min (a .most) (countOf b) = c .before .before .smaller .ensures ∙ ap (min (a .most)) (c .before .before .before .count .ensures) in
+returns-2 c = 
+    let a = c .before .before .before .before .before .before .before .args in
+    let b = c .before .before .before .before .before .before .before .args .bytes .now in
+    let s : c .before .before .wanted .result ≡ min (a .most) (countOf b) = c .before .before .wanted .ensures in
     let u = sym (c .before .is-sound .ensures) ∙ not-true (c .before .is-sound .result) (c .if2 .taken) in
     let k = sym (unsound-all (a .self) (messagesOf b) (take (a .most) (recordsOf b)) u) in
-    rw (← c .before .before .before .before .before .is-refused .ensures, c .before .before .before .before .if1 .left, u) ((λ j. record { status = Statuses.tablesUnsound; carried = s j; kernel = k j }), refl)
+    rw (← c .before .before .before .before .is-refused .ensures, c .before .before .before .if1 .left, u) ((λ j. record { status = Statuses.tablesUnsound; carried = s j; kernel = k j }), refl)
 
 messages-requires : tie.Need-messages-requires Inv-loop μ-loop
 messages-requires c κs = search needs
@@ -65,10 +62,10 @@ cast-m c = search needs
 
 loop-holds : tie.Need-loop-holds Inv-loop μ-loop
 unfolding afterRecords repliedAll
-loop-holds c =
-    let a = c .before .before .before .before .before .before .before .before .before .before .args in
-    let b = c .before .before .before .before .before .before .before .before .before .before .args .bytes .now in
-    let n : c .before .before .before .before .smaller .result ≤ countOf b = (let s = c .before .before .before .before .smaller .ensures in let t = c .before .before .before .before .before .count .ensures in omega (arith, s, t)) in
+loop-holds c = 
+    let a = c .before .before .before .before .before .before .before .before .before .args in
+    let b = c .before .before .before .before .before .before .before .before .before .args .bytes .now in
+    let n : c .before .before .before .before .wanted .result ≤ countOf b = (let s = c .before .before .before .before .wanted .ensures in omega (arith, s)) in
     let w = count-most b in
     let u = sym (c .before .before .before .is-sound .ensures) ∙ not-false (c .before .before .before .is-sound .result) (c .before .before .if2 .left) in
     (omega arith, n, omega (arith, n, w), tested (a .self) (search length-mapped) (search length-mapped) (search length-mapped) (search length-mapped) (search length-mapped) (search length-mapped) u, refl, refl, refl)
@@ -80,10 +77,10 @@ record-at-requires : tie.Need-record-at-requires Inv-loop μ-loop
 record-at-requires c κs = search needs
 
 array-share-prefix-words : tie.Need-array-share-prefix-words Inv-loop μ-loop
-array-share-prefix-words c = lent-within (c .before .before .before .before .before .before .before .before .before .before .before .before .before .args .bytes .now) (c .before .before .before .before .messages .result) (c .before .before .before .message-count .result) (c .before .before .before .before .messages .ensures) (c .before .before .before .message-count .ensures)
+array-share-prefix-words c = lent-within (c .before .before .before .before .before .before .before .before .before .before .before .before .args .bytes .now) (c .before .before .before .before .messages .result) (c .before .before .before .message-count .result) (c .before .before .before .before .messages .ensures) (c .before .before .before .message-count .ensures)
 
 slice-aggregate-step : tie.Need-slice-aggregate-step Inv-loop μ-loop
-slice-aggregate-step c = lent-length (c .before .before .before .before .before .before .before .before .before .before .before .before .before .before .args .bytes .now) (c .before .before .before .before .before .messages .result) (c .before .before .before .before .message-count .result) (c .before .before .before .before .before .messages .ensures) (c .before .before .before .before .message-count .ensures)
+slice-aggregate-step c = lent-length (c .before .before .before .before .before .before .before .before .before .before .before .before .before .args .bytes .now) (c .before .before .before .before .before .messages .result) (c .before .before .before .before .message-count .result) (c .before .before .before .before .before .messages .ensures) (c .before .before .before .before .message-count .ensures)
 
 step-requires : tie.Need-step-requires Inv-loop μ-loop
 step-requires c κs = search needs
@@ -102,13 +99,13 @@ loop-less c = search needs
 
 loop-again : tie.Need-loop-again Inv-loop μ-loop
 unfolding answerOf replyOf
-loop-again c =
-    let a = c .before .before .before .before .before .before .before .before .before .before .before .before .before .before .before .before .before .before .before .before .before .before .before .args in
+loop-again c = 
+    let a = c .before .before .before .before .before .before .before .before .before .before .before .before .before .before .before .before .before .before .before .before .before .before .args in
     let l = c .before .before .before .before .before .before .before .before .before .before .before .before .loop in
-    let b = c .before .before .before .before .before .before .before .before .before .before .before .before .before .before .before .before .before .before .before .before .before .before .before .args .bytes .now in
+    let b = c .before .before .before .before .before .before .before .before .before .before .before .before .before .before .before .before .before .before .before .before .before .before .args .bytes .now in
     let h : l .i < countOf b = omega arith in
     let r = c .before .before .before .before .before .before .before .before .before .before .record-at .result in
-    let ms = lent-words (c .before .before .before .before .before .before .before .before .before .before .before .before .before .before .before .before .before .before .before .before .before .before .before .args .bytes .now) (c .before .before .before .before .before .before .before .before .before .before .before .before .before .before .messages .result) (c .before .before .before .before .before .before .before .before .before .before .before .before .before .message-count .result) (c .before .before .before .before .before .before .before .before .before .before .before .before .before .before .messages .ensures) (c .before .before .before .before .before .before .before .before .before .before .before .before .before .message-count .ensures) in
+    let ms = lent-words (c .before .before .before .before .before .before .before .before .before .before .before .before .before .before .before .before .before .before .before .before .before .before .args .bytes .now) (c .before .before .before .before .before .before .before .before .before .before .before .before .before .before .messages .result) (c .before .before .before .before .before .before .before .before .before .before .before .before .before .message-count .result) (c .before .before .before .before .before .before .before .before .before .before .before .before .before .before .messages .ensures) (c .before .before .before .before .before .before .before .before .before .before .before .before .before .message-count .ensures) in
     let f = c .before .before .before .before .before .before .before .before .step .ensures ∙ ap (λ (xs : List ℕ). answerOf (step (l .k) (r .call) (r .caller) (r .a) (r .b) (r .c) (r .d) xs)) ms in
     let e = ap (λ (x : Answer). x .kernel) f in
     let p = ap replyOf f ∙ sound-reply (l .k) (messagesOf b) r (l .inv .3) ∙ (λ j. replyTo (l .inv .4 j) (messagesOf b) (c .before .before .before .before .before .before .before .before .before .before .record-at .ensures j)) in (
@@ -126,17 +123,17 @@ same-length c = c .before .loop .inv .5
 
 returns-3 : tie.Need-returns-3 Inv-loop μ-loop
 unfolding ran ranReplies
-returns-3 c =
-    let a = c .before .before .before .before .before .before .before .before .before .before .before .before .args in
+returns-3 c = 
+    let a = c .before .before .before .before .before .before .before .before .before .before .before .args in
     let l = c .before .loop in
-    let b = c .before .before .before .before .before .before .before .before .before .before .before .before .args .bytes .now in
-    let i : l .i ≡ c .before .before .before .before .before .before .smaller .result = omega arith in
-    let s : c .before .before .before .before .before .before .smaller .result ≡ min (a .most) (countOf b) = c .before .before .before .before .before .before .smaller .ensures ∙ ap (min (a .most)) (c .before .before .before .before .before .before .before .count .ensures) in
+    let b = c .before .before .before .before .before .before .before .before .before .before .before .args .bytes .now in
+    let i : l .i ≡ c .before .before .before .before .before .before .wanted .result = omega arith in
+    let s : c .before .before .before .before .before .before .wanted .result ≡ min (a .most) (countOf b) = c .before .before .before .before .before .before .wanted .ensures in
     let u = sym (c .before .before .before .before .before .is-sound .ensures) ∙ not-false (c .before .before .before .before .before .is-sound .result) (c .before .before .before .before .if2 .left) in
     let t = ap (λ (n : ℕ). take n (recordsOf b)) (i ∙ s) ∙ take-smaller (a .most) b in
     let k = l .inv .4 ∙ ap (afterRecords (a .self) (messagesOf b)) t in
     let o = l .inv .6 ∙ (λ j. repliedAll (a .self) (messagesOf b) (t j) 0 (a .replies .now)) in
-    rw (← c .before .before .before .before .before .before .before .before .before .is-refused .ensures, c .before .before .before .before .before .before .before .before .if1 .left, u) ((λ j. record { status = 0; carried = s j; kernel = k j }), o)
+    rw (← c .before .before .before .before .before .before .before .before .is-refused .ensures, c .before .before .before .before .before .before .before .if1 .left, u) ((λ j. record { status = 0; carried = s j; kernel = k j }), o)
 
 pub run-spec : {M : Type 1} → statement M
 run-spec =
@@ -146,8 +143,7 @@ run-spec =
     μ-loop
     is-refused-requires
     returns
-    count-requires
-    smaller-requires
+    wanted-requires
     is-sound-requires
     returns-2
     messages-requires
