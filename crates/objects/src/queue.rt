@@ -77,11 +77,11 @@ impl Queue {
         ensures { λ r. ⌜ r ≡ zeroFrom (usedWords self) (self .store) ⌝ }
     {
         let store = self.store;
-        let used = (self.stored as usize) * (self.words as usize);
+        let used = (self.stored as u32) * (self.words as u32);
         let mut clean = true;
-        let mut i: usize = 0;
+        let mut i: u32 = 0;
         while i < 64 {
-            clean = clean & ((i < used) | (store[i] == 0));
+            clean = clean & ((i < used) | (store[i as usize] == 0));
             i += 1;
         }
         clean
@@ -97,6 +97,34 @@ impl Queue {
             self.is_limited() & ((self.stored <= room) & clean)
         } else {
             (self.words == 0) & (self.storage == 0) & (self.stored == 0) & clean
+        }
+    }
+
+    // Whether every word of the store is zero.
+    fn is_blank(self) -> bool
+        ensures { λ r. ⌜ r ≡ zeroFrom 0 (self .store) ⌝ }
+    {
+        let store = self.store;
+        let mut any: u32 = 0;
+        let mut i: usize = 0;
+        while i < 64 {
+            any = any | store[i];
+            i += 1;
+        }
+        any == 0
+    }
+
+    // Whether the record is fit in itself, asked of a queue with no message: the quick case, since then all words of the store are alike.
+    pub fn is_fit_empty(self) -> bool
+        ensures { λ r. ⌜ (self .stored ≡ 0 → r ≡ queueFitb self) ⌝ }
+    {
+        if !self.is_blank() {
+            return false;
+        }
+        if self.created {
+            self.is_limited()
+        } else {
+            (self.words == 0) & (self.storage == 0)
         }
     }
 

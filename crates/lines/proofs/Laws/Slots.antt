@@ -7,10 +7,11 @@ use native.Mathlib.Nat.{mul-le-mul, zero-min, suc-min-suc, sub-zero, zero-sub, s
 use native.Mathlib.Omega.{arith}
 use lib.ListN.{length, take, drop, getD, replicate, length-take, length-replicate, getD-replicate}
 use lib.Seq.{take-nil, drop-nil, ext-getD, getD-append-add}
+use lib.Bits.{bitOr, and-le-l, and-le-r, or-add-and}
 use lib.Dec.{eqb, ltb}
 use borrow.Author.Tests.{eqb-true, eq-eqb, le-ltb, ltb-false}
 use Rattle.lines.specs.Logic.{allBelow}
-use Rattle.lines.proofs.Laws.Logic.{by-test, or-left, or-right, or-rest, all-at, all-in}
+use Rattle.lines.proofs.Laws.Logic.{by-test, and-left, and-right, and-in, or-left, or-right, or-rest, all-at, all-in, all-more}
 use Rattle.lines.specs.Slots.{zeroFrom}
 
 -- two tests that follow from each other are the same
@@ -87,3 +88,24 @@ all-zero xs e z =
 pub none-used : (a : Bool) (n : ℕ) (xs : List ℕ) → (a ≡ true → n ≡ 0) → (a && zeroFrom n xs) ≡ (a && zeroFrom 0 xs)
 none-used true n xs h = ap (λ (k : ℕ). zeroFrom k xs) (h refl)
 none-used false n xs h = refl
+
+-- ---- all zero, as a loop finds it that joins the bits of all slots
+-- the joined bits of two numbers are none where both numbers are zero
+pub or-none : (a b : ℕ) → eqb (bitOr a b) 0 ≡ (eqb a 0 && eqb b 0)
+or-none a b =
+    same-test (eqb (bitOr a b) 0) (eqb a 0 && eqb b 0)
+    (λ e. let z = eqb-true (bitOr a b) 0 e in
+    and-in (eqb a 0) (eqb b 0)
+    (eq-eqb a 0 (omega (arith, z, or-add-and a b, and-le-r a b)))
+    (eq-eqb b 0 (omega (arith, z, or-add-and a b, and-le-l a b))))
+    (λ e. let p = eqb-true a 0 (and-left (eqb a 0) (eqb b 0) e) in
+    let q = eqb-true b 0 (and-right (eqb a 0) (eqb b 0) e) in
+    eq-eqb (bitOr a b) 0 (omega (arith, p, q, or-add-and a b)))
+
+-- one slot more
+pub zero-more : (any i : ℕ) (xs : List ℕ) → eqb any 0 ≡ allBelow i (λ k. ltb k 0 || eqb (getD xs k 0) 0)
+    → eqb (bitOr any (getD xs i 0)) 0 ≡ allBelow (i + 1) (λ k. ltb k 0 || eqb (getD xs k 0) 0)
+zero-more any i xs e =
+    or-none any (getD xs i 0)
+    ∙ ap₂ _&&_ e (sym (ap (λ (b : Bool). b || eqb (getD xs i 0) 0) (le-ltb i 0 (omega arith))))
+    ∙ all-more (λ k. ltb k 0 || eqb (getD xs k 0) 0) i

@@ -11,7 +11,7 @@ use lib.Seq.{length-take-le, take-take}
 use lib.Dec.{eqb, leb}
 use borrow.Author.Tests.{eqb-true, eqb-false, eq-eqb, ne-eqb, leb-true, le-leb, ltb-true, ltb-false, lt-ltb}
 use Rattle.lines.specs.Logic.{allBelow}
-use Rattle.lines.proofs.Laws.Logic.{by-test, by-eq, by-choice, and-left, and-right, and-in}
+use Rattle.lines.proofs.Laws.Logic.{by-test, by-eq, by-choice, and-left, and-right, and-in, and-yes, and-no}
 use Rattle.lines.proofs.Laws.Lines.{getD-pad}
 use Rattle.objects.specs.declared.queue.Queue.{Queue}
 use Rattle.lines.specs.Slots.{zeroFrom}
@@ -360,3 +360,28 @@ module _ (q : Queue) (e : queueFitb q ≡ true) (u : q .created ≡ true) where
       by-choice (λ (r : Queue). fullb r ≡ true) front _ _
       (λ b. f)
       (λ b. ap fullb (last-room (withoutOldest q) m (without-room w)) ∙ ap (λ (n : ℕ). eqb n (q .storage / q .words)) (one-again w) ∙ f)
+
+-- ---- a queue with no message is fit where its store is zero throughout and its sizes are
+module _ (q : Queue) (e : q .stored ≡ 0) where
+  empty-created : q .created ≡ true → queueFitb q ≡ (queueLimitsb q && zeroFrom 0 (q .store))
+  unfolding storeFitb usedWords
+  empty-created c =
+      let room = le-leb (q .stored) (capacityOf q) (omega (arith, e)) in
+      let none : q .stored * q .words ≡ 0 = ap (λ (n : ℕ). n * q .words) e ∙ zero-mul (q .words) in
+      fit-created q c ∙ rw (room, none)
+
+  empty-uncreated : q .created ≡ false → queueFitb q ≡ (eqb (q .words) 0 && eqb (q .storage) 0 && zeroFrom 0 (q .store))
+  unfolding queueZerob
+  empty-uncreated c = fit-uncreated q c ∙ rw (eq-eqb (q .stored) 0 e, and-yes)
+
+  pub empty-stained : zeroFrom 0 (q .store) ≡ false → queueFitb q ≡ false
+  empty-stained z =
+      by-test (q .created)
+      (λ c. empty-created c ∙ rw (z, and-no))
+      (λ c. empty-uncreated c ∙ rw (z, and-no))
+
+  pub empty-limits : zeroFrom 0 (q .store) ≡ true → q .created ≡ true → queueFitb q ≡ queueLimitsb q
+  empty-limits z c = empty-created c ∙ rw (z, and-yes)
+
+  pub empty-zero : zeroFrom 0 (q .store) ≡ true → q .created ≡ false → queueFitb q ≡ (eqb (q .words) 0 && eqb (q .storage) 0)
+  empty-zero z c = empty-uncreated c ∙ rw (z, and-yes)

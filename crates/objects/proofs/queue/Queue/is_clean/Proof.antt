@@ -37,6 +37,9 @@ loop-holds c =
     let e : length (c .before .before .before .args .self .store) ≡ 64 = search needs in
     (omega arith, e, refl)
 
+cast-clean : tie.Need-cast-clean Inv-loop μ-loop
+cast-clean c = search needs
+
 mul-clean : tie.Need-mul-clean Inv-loop μ-loop
 mul-clean c = search needs
 
@@ -72,6 +75,7 @@ is-clean-spec =
     cast-used-2
     mul-used
     loop-holds
+    cast-clean
     mul-clean
     array-read-clean
     add-i
