@@ -7,7 +7,7 @@ ghost use lib.Dec.{ltb};
 ghost use Rattle.lines.specs.Lists.{numbersFrom};
 ghost use Rattle.lines.specs.Lines.{pad};
 ghost use Rattle.lines.specs.Slots.{zeroFrom};
-ghost use Rattle.blocks.specs.Pools.{noPool, blocksOf, freeBlocks, blockSizesb, poolLimitsb, listingb, poolFitb, listing, freshPool, usedb, nextBlock, withoutNext, withFree};
+ghost use Rattle.blocks.specs.Pools.{noPool, blocksOf, freeBlocks, blockSizesb, poolLimitsb, listingb, poolZerob, poolFitb, listing, freshPool, usedb, nextBlock, withoutNext, withFree};
 
 // The number of a pool, 0 to 3. 4 stands for none.
 pub struct PoolId(pub u8);
@@ -64,21 +64,18 @@ impl Pool {
         let blocks = self.blocks();
         let n = self.listed() as usize;
         let mut counts: [u8; 64] = [0; 64];
-        let mut i: usize = 0;
-        while i < n {
-            let k = list[i] as usize;
-            i += 1;
-            if k < 64 {
-                counts[k] = counts[k] + 1;
-            }
-        }
         let mut known = true;
         let mut once = true;
-        let mut j: usize = 0;
-        while j < 64 {
-            known = known & (!(j < n) | ((list[j] as u32) < blocks));
-            once = once & (counts[j] <= 1);
-            j += 1;
+        let mut i: usize = 0;
+        while i < n {
+            let x = list[i];
+            let k = x as usize;
+            i += 1;
+            known = known & ((x as u32) < blocks);
+            if k < 64 {
+                once = once & (counts[k] == 0);
+                counts[k] = counts[k] + 1;
+            }
         }
         known & once
     }
@@ -88,11 +85,11 @@ impl Pool {
         ensures { λ r. ⌜ r ≡ zeroFrom (self .free) (self .list) ⌝ }
     {
         let list = self.list;
-        let free = self.free as usize;
+        let free = self.free;
         let mut clean = true;
-        let mut i: usize = 0;
+        let mut i: u8 = 0;
         while i < 64 {
-            clean = clean & ((i < free) | (list[i] == 0));
+            clean = clean & ((i < free) | (list[i as usize] == 0));
             i += 1;
         }
         clean
@@ -109,6 +106,20 @@ impl Pool {
         } else {
             (self.block == 0) & (self.total == 0) & (self.free == 0) & clean
         }
+    }
+
+    // Whether an uncreated record is zero.
+    pub fn is_zero(self) -> bool
+        ensures { λ r. ⌜ r ≡ poolZerob self ⌝ }
+    {
+        let list = self.list;
+        let mut any: u8 = 0;
+        let mut i: usize = 0;
+        while i < 64 {
+            any = any | list[i];
+            i += 1;
+        }
+        (self.block == 0) & (self.total == 0) & (self.free == 0) & (any == 0)
     }
 
     // The pool with the free blocks of two parts one behind the other: the first 64 of them, and zero behind them.

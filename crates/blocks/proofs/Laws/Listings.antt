@@ -1,20 +1,21 @@
 -- Laws of lists of block numbers: below a bound slot by slot, and how often each is listed.
 use mathlib.Core.Path.{_≡_, refl, sym, ap, _∙_}
-use mathlib.Core.List.{List, [], _∷_}
-use mathlib.Core.Bool.{Bool, true, false, _&&_, _||_, not, and-true, and-false, and-assoc}
+use mathlib.Core.List.{List, [], _∷_, _++_}
+use mathlib.Core.Bool.{Bool, true, false, _&&_, not, and-true, and-false, and-assoc}
 use Prim.Native.Nat.{ℕ, zero, suc, _+_, _≤_, _<_}
 use native.Mathlib.Nat.{not-suc-le-zero, le-of-suc-le-suc}
 use native.Mathlib.Omega.{arith}
-use lib.ListN.{length, take, drop, getD, set, length-take}
-use lib.Seq.{getD-take, getD-set-same, getD-set-other}
-use lib.Dec.{eqb, ltb}
-use borrow.Author.Tests.{ltb-true, lt-ltb, eq-eqb, ne-eqb}
-use Rattle.lines.specs.Logic.{oneIf, allBelow}
+use lib.ListN.{length, take, drop, getD, set}
+use lib.Seq.{getD-set-same, getD-set-other}
+use lib.Dec.{eqb, ltb, leb}
+use borrow.Author.Tests.{ltb-true, lt-ltb, leb-true, le-leb, eqb-true, eq-eqb, ne-eqb}
+use Rattle.lines.specs.Logic.{oneIf}
 use Rattle.lines.specs.Lists.{count, below}
-use Rattle.lines.proofs.Laws.Logic.{by-test, by-eq, and-left, and-right, and-in, or-left, or-right, or-rest, all-at, all-in}
+use Rattle.lines.proofs.Laws.Logic.{by-eq, and-left, and-right, and-in, one-at-most, all-at, all-in}
 use Rattle.lines.proofs.Laws.Lists.{length-without, count-one}
 use Rattle.lines.proofs.Laws.Lines.{take-one}
-use Rattle.lines.proofs.Laws.Slots.{same-test}
+use Rattle.lines.proofs.Laws.Slots.{same-test, all-same}
+use Rattle.blocks.specs.Pools.{onceb}
 
 -- ---- all below a bound
 pub below-at : (n : ℕ) (xs : List ℕ) → below n xs ≡ true → (i : ℕ) → i < length xs → getD xs i 0 < n
@@ -30,28 +31,6 @@ below-all n (x ∷ xs) h =
     and-in (ltb x n) (below n xs)
     (lt-ltb x n (h 0 (omega arith)))
     (below-all n xs (λ i l. h (suc i) (let z : i < length xs = l in omega arith)))
-
--- the first k of 64 slots, each tested by itself
-module _ (n k : ℕ) (xs : List ℕ) where
-  abbrev low : ℕ → Bool
-  low i = not (ltb i k) || ltb (getD xs i 0) n
-
-  pub below-slots : length xs ≡ 64 → allBelow 64 low ≡ below n (take k xs)
-  below-slots e =
-      same-test (allBelow 64 low) (below n (take k xs))
-      (λ h. below-all n (take k xs) (λ i l.
-      let m = length-take k xs in
-      let q : i < k = omega (arith, m, l) in
-      let g = getD-take k xs i 0 q in
-      let b = ltb-true (getD xs i 0) n (or-rest (not (ltb i k)) (ltb (getD xs i 0) n) (all-at 64 low h i (omega (arith, m, l, e))) (ap not (lt-ltb i k q))) in
-      omega (arith, g, b)))
-      (λ h. all-in 64 low (λ i l. by-test (ltb i k)
-      (λ q. let j = ltb-true i k q in
-      let m = length-take k xs in
-      let g = getD-take k xs i 0 j in
-      let b = below-at n (take k xs) h i (omega (arith, m, l, e, j)) in
-      or-right (not (ltb i k)) (ltb (getD xs i 0) n) (lt-ltb (getD xs i 0) n (omega (arith, g, b))))
-      (λ q. or-left (not (ltb i k)) (ltb (getD xs i 0) n) (ap not q))))
 
 -- ---- counting
 pub count-small : (t : ℕ) (xs : List ℕ) → count t xs ≤ length xs
@@ -112,3 +91,50 @@ unlisted-more b n i xs h =
     go : (k : ℕ) (e : Bool) → (eqb k 0 && not e) ≡ eqb (k + oneIf e) 0
     go k true = and-false (eqb k 0) ∙ sym (ne-eqb (k + 1) 0 (λ z. not-suc-le-zero (let y : 1 ≤ 0 = omega (arith, z) in y)))
     go k false = and-true (eqb k 0) ∙ ap (λ (j : ℕ). eqb j 0) (let z : k ≡ k + 0 = omega arith in z)
+
+-- ---- one slot more of a listing
+pub below-more : (n i : ℕ) (xs : List ℕ) → i < length xs → (below n (take i xs) && ltb (getD xs i 0) n) ≡ below n (take (i + 1) xs)
+unfolding below
+below-more n i xs h = go (take i xs) (getD xs i 0) ∙ sym (ap (below n) (take-one xs i h))
+  where
+    go : (ys : List ℕ) (y : ℕ) → (below n ys && ltb y n) ≡ below n (ys ++ (y ∷ []))
+    go [] y = sym (and-true (ltb y n))
+    go (z ∷ ys) y = and-assoc (ltb z n) (below n ys) (ltb y n) ∙ ap (λ (b : Bool). ltb z n && b) (go ys y)
+
+module _ (i : ℕ) (xs : List ℕ) (h : i < length xs) where
+  abbrev next : ℕ
+  next = getD xs i 0
+
+  count-next : (k : ℕ) → count k (take (i + 1) xs) ≡ count k (take i xs) + oneIf (eqb next k)
+  count-next k = ap (count k) (take-one xs i h) ∙ count-one k next (take i xs)
+
+  -- a number that is counted, and was not listed before
+  pub once-more : next < 64 → (onceb (take i xs) && eqb (count next (take i xs)) 0) ≡ onceb (take (i + 1) xs)
+  unfolding onceb oneIf
+  once-more l =
+      same-test (onceb (take i xs) && eqb (count next (take i xs)) 0) (onceb (take (i + 1) xs))
+      (λ e. all-in 64 (λ k. leb (count k (take (i + 1) xs)) 1) (grown e))
+      (λ e. and-in (onceb (take i xs)) (eqb (count next (take i xs)) 0)
+      (all-in 64 (λ k. leb (count k (take i xs)) 1) (λ k m. le-leb (count k (take i xs)) 1 (let c = count-next k in let z = at e k m in omega (arith, c, z))))
+      (eq-eqb (count next (take i xs)) 0 (let w : oneIf (eqb next next) ≡ 1 = ap oneIf (eq-eqb next next refl) in let c = count-next next in let z = at e next l in omega (arith, w, c, z))))
+    where
+      at : onceb (take (i + 1) xs) ≡ true → (k : ℕ) → k < 64 → count k (take (i + 1) xs) ≤ 1
+      at e k m = leb-true (count k (take (i + 1) xs)) 1 (all-at 64 (λ k. leb (count k (take (i + 1) xs)) 1) e k m)
+
+      grown : (onceb (take i xs) && eqb (count next (take i xs)) 0) ≡ true → (k : ℕ) → k < 64 → leb (count k (take (i + 1) xs)) 1 ≡ true
+      grown e k m =
+          let a = and-left (onceb (take i xs)) (eqb (count next (take i xs)) 0) e in
+          let b = eqb-true (count next (take i xs)) 0 (and-right (onceb (take i xs)) (eqb (count next (take i xs)) 0) e) in
+          let c = count-next k in
+          le-leb (count k (take (i + 1) xs)) 1
+          (by-eq k next
+          (λ q. let w = one-at-most (eqb next k) in let z = ap (λ (j : ℕ). count j (take i xs)) q in omega (arith, b, w, c, z))
+          (λ q. let w : oneIf (eqb next k) ≡ 0 = ap oneIf (ne-eqb next k (λ z. q (sym z))) in let z = leb-true (count k (take i xs)) 1 (all-at 64 (λ k. leb (count k (take i xs)) 1) a k m) in omega (arith, w, c, z)))
+
+  -- a number that is not counted
+  pub once-past : 64 ≤ next → onceb (take i xs) ≡ onceb (take (i + 1) xs)
+  unfolding onceb oneIf
+  once-past l =
+      all-same 64 (λ k. leb (count k (take i xs)) 1) (λ k. leb (count k (take (i + 1) xs)) 1)
+      (λ k m. let w : oneIf (eqb next k) ≡ 0 = ap oneIf (ne-eqb next k (λ z. not-suc-le-zero (let y : 1 ≤ 0 = omega (arith, z, l, m) in y))) in
+      ap (λ (j : ℕ). leb j 1) (let c = count-next k in let z : count k (take i xs) ≡ count k (take (i + 1) xs) = omega (arith, w, c) in z))

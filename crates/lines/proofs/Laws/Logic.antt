@@ -46,14 +46,6 @@ pub and-twice : (a b : Bool) → (a && (a && b)) ≡ (a && b)
 and-twice true b = refl
 and-twice false b = refl
 
-pub and-yes : (a : Bool) → (a && true) ≡ a
-and-yes true = refl
-and-yes false = refl
-
-pub and-no : (a : Bool) → (a && false) ≡ false
-and-no true = refl
-and-no false = refl
-
 pub or-left : (a b : Bool) → a ≡ true → (a || b) ≡ true
 or-left true b e = refl
 or-left false b e = never e refl

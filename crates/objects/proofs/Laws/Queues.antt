@@ -1,7 +1,7 @@
 -- Laws of a queue's record.
 use mathlib.Core.Path.{_≡_, refl, sym, ap, ap₂, _∙_}
 use mathlib.Core.List.{List, [], _++_}
-use mathlib.Core.Bool.{Bool, true, false, _&&_}
+use mathlib.Core.Bool.{Bool, true, false, _&&_, and-true, and-false}
 use Prim.Native.Nat.{ℕ, zero, suc, _+_, _-_, _*_, _/_, _≤_, _<_, min}
 use native.Mathlib.Omega.{arith}
 use native.Mathlib.Nat.{div-zero, div-le-self, zero-mul, suc-mul, add-comm, div-mul-le-self, mul-le-mul-right, le-trans}
@@ -11,7 +11,7 @@ use lib.Seq.{length-take-le, take-take}
 use lib.Dec.{eqb, leb}
 use borrow.Author.Tests.{eqb-true, eqb-false, eq-eqb, ne-eqb, leb-true, le-leb, ltb-true, ltb-false, lt-ltb}
 use Rattle.lines.specs.Logic.{allBelow}
-use Rattle.lines.proofs.Laws.Logic.{by-test, by-eq, by-choice, and-left, and-right, and-in, and-yes, and-no}
+use Rattle.lines.proofs.Laws.Logic.{by-test, by-eq, by-choice, and-left, and-right, and-in}
 use Rattle.lines.proofs.Laws.Lines.{getD-pad}
 use Rattle.objects.specs.declared.queue.Queue.{Queue}
 use Rattle.lines.specs.Slots.{zeroFrom}
@@ -372,16 +372,16 @@ module _ (q : Queue) (e : q .stored ≡ 0) where
 
   empty-uncreated : q .created ≡ false → queueFitb q ≡ (eqb (q .words) 0 && eqb (q .storage) 0 && zeroFrom 0 (q .store))
   unfolding queueZerob
-  empty-uncreated c = fit-uncreated q c ∙ rw (eq-eqb (q .stored) 0 e, and-yes)
+  empty-uncreated c = fit-uncreated q c ∙ rw (eq-eqb (q .stored) 0 e, and-true)
 
   pub empty-stained : zeroFrom 0 (q .store) ≡ false → queueFitb q ≡ false
   empty-stained z =
       by-test (q .created)
-      (λ c. empty-created c ∙ rw (z, and-no))
-      (λ c. empty-uncreated c ∙ rw (z, and-no))
+      (λ c. empty-created c ∙ rw (z, and-false))
+      (λ c. empty-uncreated c ∙ rw (z, and-false))
 
   pub empty-limits : zeroFrom 0 (q .store) ≡ true → q .created ≡ true → queueFitb q ≡ queueLimitsb q
-  empty-limits z c = empty-created c ∙ rw (z, and-yes)
+  empty-limits z c = empty-created c ∙ rw (z, and-true)
 
   pub empty-zero : zeroFrom 0 (q .store) ≡ true → q .created ≡ false → queueFitb q ≡ (eqb (q .words) 0 && eqb (q .storage) 0)
-  empty-zero z c = empty-uncreated c ∙ rw (z, and-yes)
+  empty-zero z c = empty-uncreated c ∙ rw (z, and-true)

@@ -17,14 +17,14 @@ Inv-loop list free clean₀ i₀ clean i = (i ≤ 64) × (length list ≡ 64) ×
 abbrev μ-loop : tie.MeasureT-loop
 μ-loop list free clean₀ i₀ clean i = 64 - i
 
-cast-free : tie.Need-cast-free Inv-loop μ-loop
-cast-free c = search needs
-
 loop-holds : tie.Need-loop-holds Inv-loop μ-loop
 unfolding allBelow
 loop-holds c =
-    let e : length (c .before .before .args .self .list) ≡ 64 = search needs in
+    let e : length (c .before .args .self .list) ≡ 64 = search needs in
     (omega arith, e, refl)
+
+cast-clean : tie.Need-cast-clean Inv-loop μ-loop
+cast-clean c = search needs
 
 array-read-clean : tie.Need-array-read-clean Inv-loop μ-loop
 array-read-clean c = search needs
@@ -38,7 +38,7 @@ loop-less c = search needs
 loop-again : tie.Need-loop-again Inv-loop μ-loop
 loop-again c =
     let l = c .before .loop in
-    let a = c .before .before .before .before .args in
+    let a = c .before .before .before .args in
     (omega arith, l .inv .1, ap (λ (b : Bool). b && (ltb (l .i) (a .self .free) || eqb (getD (a .self .list) (l .i) 0) 0)) (l .inv .2) ∙ all-more (λ i. ltb i (a .self .free) || eqb (getD (a .self .list) i 0) 0) (l .i))
 
 returns : tie.Need-returns Inv-loop μ-loop
@@ -54,8 +54,8 @@ is-clean-spec =
     (tie.spec
     Inv-loop
     μ-loop
-    cast-free
     loop-holds
+    cast-clean
     array-read-clean
     add-i
     loop-less

@@ -1,0 +1,52 @@
+use mathlib.Core.Path.{_≡_, refl}
+use mathlib.Core.Bool.{_||_}
+use Prim.Native.Nat.{_≤_, _-_}
+use native.Mathlib.Omega.{arith}
+use borrow.Author.Needs.{needs}
+use lib.ListN.{length, getD}
+use lib.Dec.{eqb, ltb}
+use Rattle.lines.specs.Logic.{allBelow}
+use Rattle.lines.specs.Slots.{zeroFrom}
+use Rattle.lines.proofs.Laws.Slots.{zero-more}
+use Rattle.blocks.specs.Pools.{poolZerob}
+use Rattle.blocks.proofs.pool.Pool.is_zero.Statement.{statement}
+use Rattle.blocks.proofs.pool.Pool.is_zero.Tie as tie
+
+abbrev Inv-loop : tie.InvT-loop
+Inv-loop self list any₀ i₀ any i = (i ≤ 64) × (length list ≡ 64) × (eqb any 0 ≡ allBelow i (λ k. ltb k 0 || eqb (getD list k 0) 0))
+
+abbrev μ-loop : tie.MeasureT-loop
+μ-loop self list any₀ i₀ any i = 64 - i
+
+loop-holds : tie.Need-loop-holds Inv-loop μ-loop
+unfolding allBelow
+loop-holds c =
+    let e : length (c .before .args .self .list) ≡ 64 = search needs in
+    (omega arith, e, refl)
+
+array-read-any : tie.Need-array-read-any Inv-loop μ-loop
+array-read-any c = search needs
+
+add-i : tie.Need-add-i Inv-loop μ-loop
+add-i c = search needs
+
+loop-less : tie.Need-loop-less Inv-loop μ-loop
+loop-less c = search needs
+
+loop-again : tie.Need-loop-again Inv-loop μ-loop
+loop-again c =
+    let l = c .before .loop in
+    let a = c .before .before .before .args in
+    (omega arith, l .inv .1, zero-more (l .any) (l .i) (a .self .list) (l .inv .2))
+
+returns : tie.Need-returns Inv-loop μ-loop
+unfolding poolZerob zeroFrom
+returns c =
+    let l = c .before .before .before .before .loop in
+    let e : l .i ≡ 64 = omega arith in
+    rw (l .inv .2, e)
+
+pub is-zero-spec : {M : Type 1} → statement M
+is-zero-spec =
+    tie.close
+    (tie.spec Inv-loop μ-loop loop-holds array-read-any add-i loop-less loop-again returns)
