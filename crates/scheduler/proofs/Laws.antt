@@ -6,6 +6,7 @@ pub mod Choice
 pub mod Choosing
 pub mod Changing
 pub mod Testing
+pub mod Placing
 pub mod Fairness
 pub mod Claims
 pub mod Cases

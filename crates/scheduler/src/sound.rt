@@ -1,43 +1,42 @@
 // The test of the scheduler's tables.
 ghost use mathlib.Core.Path.{_≡_};
-ghost use Rattle.scheduler.specs.Sound.{steadyb, runsb, soundb};
+ghost use Rattle.lines.specs.Logic.{if_then_else_};
+ghost use mathlib.Core.Bool.{true, false, _&&_, not};
+ghost use lib.Dec.{eqb, ltb};
+ghost use Rattle.scheduler.specs.Threads.{readyb};
+ghost use Rattle.scheduler.specs.Sound.{soundb};
 use super::Scheduler;
+use super::thread::Thread;
 use lines::NOBODY;
 
+// Whether thread number `r` with this record may run: a ready thread with no mark, or nobody.
+fn may_run(r: u8, th: Thread) -> bool
+    ensures { λ k. ⌜ k ≡ (if ltb r 32 then (readyb th && not (th .marked)) else eqb r 32) ⌝ }
+{
+    if r < NOBODY {
+        return th.is_ready() & !th.marked;
+    }
+    r == NOBODY
+}
+
 impl Scheduler {
-    // Whether each thread stands as often as its record says, all records are fit and the line is clean.
-    pub fn is_steady(self) -> bool
-        ensures { λ r. ⌜ r ≡ steadyb self ⌝ }
-    {
-        let o = self.order;
-        let counts = o.tally();
-        let mut ok = true;
-        let mut t: usize = 0;
-        while t < 32 {
-            ok = ok & self.threads[t].is_counted(counts[t]);
-            t += 1;
-        }
-        o.is_clean() & (counts[32] == 0) & ok
-    }
-
-    // Whether the runner may run.
-    pub fn is_running(self) -> bool
-        ensures { λ r. ⌜ r ≡ runsb self ⌝ }
-    {
-        let r = self.running;
-        let runner = self.thread_at(r);
-        let h = self.best_ready();
-        let head = self.thread_at(h);
-        if r.0 < NOBODY {
-            return runner.is_ready() & !runner.marked & (runner.threshold <= head.priority);
-        }
-        (r.0 == NOBODY) & (h.0 == NOBODY)
-    }
-
-    // Whether the tables are sound.
+    // Whether the tables are sound: the line is clean, each thread stands as often as its fit record says, and the runner
+    // may run. With that, nobody ready is better than the runner's threshold.
     pub fn is_sound(self) -> bool
         ensures { λ r. ⌜ r ≡ soundb self ⌝ }
     {
-        self.is_steady() & self.is_running()
+        let o = self.order;
+        let r = self.running;
+        let runner = self.thread_at(r);
+        let limit = runner.threshold;
+        let counts = o.tally();
+        let mut t: usize = 0;
+        while t < 32 {
+            if !self.threads[t].is_placed(counts[t], limit) {
+                return false;
+            }
+            t += 1;
+        }
+        o.is_clean() & (counts[32] == 0) & may_run(r.0, runner)
     }
 }

@@ -1,11 +1,14 @@
 // What scheduling needs of a thread, and the place where a thread stands.
 ghost use mathlib.Core.Path.{_≡_};
-ghost use Rattle.lines.specs.Logic.{if_then_else_};
+ghost use mathlib.Core.Bool.{true, _&&_};
+ghost use Prim.Native.Nat.{_<_, _≤_};
+ghost use lib.Dec.{leb};
+ghost use Rattle.lines.specs.Logic.{if_then_else_, implies};
 ghost use Rattle.lines.specs.Lists.{worst};
 ghost use Rattle.scheduler.specs.Threads.{uncreated, noThread, readyb, waitsb, pausedb, standsb, numberOf, placedb, inState, awake, withSuspension, created};
 ghost use Rattle.scheduler.specs.Orders.{keyAt};
 ghost use Rattle.scheduler.specs.Choice.{wantedb, consideredOf};
-ghost use Rattle.scheduler.specs.Sound.{zerob, fitb, countedb};
+ghost use Rattle.scheduler.specs.Sound.{limitsb, zerob, fitb, countedb};
 
 pub const READY: u8 = 0;
 
@@ -203,34 +206,64 @@ impl Thread {
             & (self.ticks == 0)
     }
 
-    // Whether the record is fit in itself.
-    pub fn is_fit(self) -> bool
-        ensures { λ r. ⌜ r ≡ fitb self ⌝ }
+    // Whether state, priority and threshold are within bounds.
+    fn is_limited(self) -> bool
+        ensures { λ r. ⌜ r ≡ limitsb self ⌝ }
     {
-        let waiting = self.is_waiting();
-        let paused = self.is_paused();
-        let ready = self.is_ready();
-        if self.created {
-            let limits = (self.state <= ON_BLOCK)
-                & (self.priority < WORST)
-                & (self.threshold <= self.priority);
-            let mark = !self.marked | (ready & (self.threshold < self.priority));
-            let suspension = !self.suspending | paused;
-            let ticks = (!paused | (0 < self.ticks)) & (paused | (self.ticks == 0));
-            let object = waiting | (self.object == 0);
-            return limits & mark & suspension & ticks & object;
-        }
-        self.is_zero()
+        (self.state <= ON_BLOCK)
+            & (self.priority < WORST)
+            & (self.threshold <= self.priority)
     }
 
-    // Whether the record is fit and says that its thread stands `n` times.
-    pub fn is_counted(self, n: u8) -> bool
-        ensures { λ r. ⌜ r ≡ countedb n self ⌝ }
+    // Whether a ready thread's record is fit in itself, and the thread not better than `limit`.
+    fn is_fit_ready(self, limit: u8) -> bool
+        ensures { λ r. ⌜ (self .created ≡ true → self .state ≡ 0 → r ≡ (fitb self && leb limit (self .priority))) ⌝ }
     {
-        let fit = self.is_fit();
-        if self.is_standing() {
-            return (n == 1) & fit;
+        let mark = !self.marked | (self.threshold < self.priority);
+        let fit = self.is_limited()
+            & mark
+            & !self.suspending
+            & (self.ticks == 0)
+            & (self.object == 0);
+        fit & (limit <= self.priority)
+    }
+
+    // Whether the record of a completed, terminated or suspended thread is fit in itself.
+    fn is_fit_resting(self) -> bool
+        ensures { λ r. ⌜ (self .created ≡ true → 0 < self .state → self .state < 4 → r ≡ fitb self) ⌝ }
+    {
+        self.is_limited()
+            & !self.marked
+            & !self.suspending
+            & (self.ticks == 0)
+            & (self.object == 0)
+    }
+
+    // Whether the record of a thread that waits or sleeps is fit in itself.
+    fn is_fit_paused(self) -> bool
+        ensures { λ r. ⌜ (self .created ≡ true → 4 ≤ self .state → r ≡ fitb self) ⌝ }
+    {
+        let object = (ASLEEP < self.state) | (self.object == 0);
+        self.is_limited() & !self.marked & (0 < self.ticks) & object
+    }
+
+    // Whether the record is fit, says that its thread stands `n` times, and is not that of a ready thread better than `limit`.
+    // Each state has its own few tests.
+    pub fn is_placed(self, n: u8, limit: u8) -> bool
+        ensures { λ r. ⌜ r ≡ (countedb n self && implies (readyb self) (leb limit (self .priority))) ⌝ }
+    {
+        if self.created {
+            if self.state == READY {
+                return (n == 1) & self.is_fit_ready(limit);
+            }
+            if self.state < ASLEEP {
+                return (n == 0) & self.is_fit_resting();
+            }
+            if self.state == ASLEEP {
+                return (n == 0) & self.is_fit_paused();
+            }
+            return (n == 1) & self.is_fit_paused();
         }
-        (n == 0) & fit
+        (n == 0) & self.is_zero()
     }
 }

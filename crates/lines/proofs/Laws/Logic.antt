@@ -92,3 +92,7 @@ all-in (suc n) f h = and-in (allBelow n f) (f n) (all-in n f (λ i l. h i (omega
 pub all-more : (f : ℕ → Bool) (i : ℕ) → (allBelow i f && f i) ≡ allBelow (i + 1) f
 unfolding allBelow
 all-more f i = rw add-one
+
+-- one number of which f does not hold
+pub all-not : (n : ℕ) (f : ℕ → Bool) (i : ℕ) → i < n → f i ≡ false → allBelow n f ≡ false
+all-not n f i h e = by-test (allBelow n f) (λ a. never (all-at n f a i h) e) (λ a. a)

@@ -32,7 +32,7 @@ module _ (s : Scheduler) where
   abbrev stands : ℕ → Bool
   stands t = eqb (count t (members (s .order))) (oneIf (standsb (threadAt s t)))
 
-  steady-tested : length (s .threads) ≡ 32 → steadyb s ≡ true → Steady s
+  pub steady-tested : length (s .threads) ≡ 32 → steadyb s ≡ true → Steady s
   unfolding steadyb countedb oneIf
   steady-tested z e =
       let first = and-left (cleanb (s .order) && low) (allBelow 32 counted) e in

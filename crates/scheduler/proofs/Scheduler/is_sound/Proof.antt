@@ -1,18 +1,121 @@
-use Prim.Native.Nat.{_-_}
+use mathlib.Core.Path.{_≡_, refl, sym, ap, ap₂, _∙_}
+use mathlib.Core.List.{List}
+use mathlib.Core.Bool.{Bool, true, false, _&&_, and-true, and-false}
+use Prim.Native.Nat.{ℕ, _<_, _≤_, _-_, _+_}
+use native.Mathlib.Omega.{arith}
 use borrow.Author.Needs.{needs}
+use borrow.Author.Tests.{not-true, not-false}
+use lib.ListN.{length, getD}
+use lib.Dec.{eqb}
+use Rattle.lines.specs.Logic.{allBelow}
+use Rattle.lines.specs.Lists.{count}
+use Rattle.lines.specs.Lines.{members, tally}
+use Rattle.lines.proofs.Laws.Logic.{all-more, all-not}
+use Rattle.lines.proofs.Laws.Lists.{getD-any}
+use Rattle.lines.proofs.Laws.Tallies.{tally-count, tally-below}
+use Rattle.scheduler.specs.declared.thread.Thread.{Thread}
+use Rattle.scheduler.specs.Threads.{noThread}
+use Rattle.scheduler.specs.Orders.{threadAt}
 use Rattle.scheduler.specs.Sound.{soundb}
+use Rattle.scheduler.proofs.Laws.Threads.{length-mapped}
+use Rattle.scheduler.proofs.Laws.Placing.{placedFit, placed, mayRun, sound-parts, placed-read}
 use Rattle.scheduler.proofs.Scheduler.is_sound.Statement.{statement}
 use Rattle.scheduler.proofs.Scheduler.is_sound.Tie as tie
 
-is-steady-requires : tie.Need-is-steady-requires
-is-steady-requires c κs = search needs
+abbrev Inv-loop : tie.InvT-loop
+Inv-loop self o r runner limit counts t₀ t = (t ≤ 32) × (length (self .threads) ≡ 32) × (allBelow t (placed self) ≡ true)
 
-is-running-requires : tie.Need-is-running-requires
-is-running-requires c κs = search needs
+abbrev μ-loop : tie.MeasureT-loop
+μ-loop self o r runner limit counts t₀ t = 32 - t
 
-returns : tie.Need-returns
-unfolding soundb
-returns c = rw (c .before .is-steady .ensures, c .is-running .ensures)
+thread-at-requires : tie.Need-thread-at-requires Inv-loop μ-loop
+thread-at-requires c κs = search needs
+
+tally-requires : tie.Need-tally-requires Inv-loop μ-loop
+tally-requires c κs = search needs
+
+loop-holds : tie.Need-loop-holds Inv-loop μ-loop
+unfolding allBelow
+loop-holds c = (omega arith, search length-mapped, refl)
+
+mul-is-placed : tie.Need-mul-is-placed Inv-loop μ-loop
+mul-is-placed c = search needs
+
+element-copy-out-is-placed : tie.Need-element-copy-out-is-placed Inv-loop μ-loop
+element-copy-out-is-placed c = search needs
+
+array-read-is-placed : tie.Need-array-read-is-placed Inv-loop μ-loop
+array-read-is-placed c = search needs
+
+is-placed-requires : tie.Need-is-placed-requires Inv-loop μ-loop
+is-placed-requires c κs = search needs
+
+returns : tie.Need-returns Inv-loop μ-loop
+unfolding threadAt
+returns c =
+    let a = c .before .before .before .before .before .before .before .before .before .args .t1 in
+    let l = c .before .before .before .before .loop in
+    let h : l .t < 32 = omega arith in
+    let e : l .t < length (a .threads) = omega arith in
+    let n = ap (λ (r : List ℕ). getD r (l .t) 0) (c .before .before .before .before .before .tally .ensures) ∙ tally-count (l .t) (members (a .order)) h in
+    let q = c .before .is-placed .ensures ∙ placed-read a (l .t) _ _ _ n (ap (λ (th : Thread). th .threshold) (c .before .before .before .before .before .before .thread-at .ensures)) (getD-any (a .threads) (l .t) _ noThread e) in
+    let f = sym q ∙ not-true (c .before .is-placed .result) (c .if1 .taken) in
+    sym (sound-parts a (l .inv .1) ∙ rw (all-not 32 (placed a) (l .t) h f, and-false))
+
+add-t : tie.Need-add-t Inv-loop μ-loop
+add-t c = search needs
+
+loop-less : tie.Need-loop-less Inv-loop μ-loop
+loop-less c = search needs
+
+loop-again : tie.Need-loop-again Inv-loop μ-loop
+unfolding threadAt
+loop-again c =
+    let a = c .before .before .before .before .before .before .before .before .before .args .t1 in
+    let l = c .before .before .before .before .loop in
+    let h : l .t < 32 = omega arith in
+    let e : l .t < length (a .threads) = omega arith in
+    let n = ap (λ (r : List ℕ). getD r (l .t) 0) (c .before .before .before .before .before .tally .ensures) ∙ tally-count (l .t) (members (a .order)) h in
+    let q = c .before .is-placed .ensures ∙ placed-read a (l .t) _ _ _ n (ap (λ (th : Thread). th .threshold) (c .before .before .before .before .before .before .thread-at .ensures)) (getD-any (a .threads) (l .t) _ noThread e) in
+    let f = sym q ∙ not-false (c .before .is-placed .result) (c .if1 .left) in
+    (omega arith, l .inv .1, sym (all-more (placed a) (l .t)) ∙ ap₂ _&&_ (l .inv .2) f)
+
+is-clean-requires : tie.Need-is-clean-requires Inv-loop μ-loop
+is-clean-requires c κs = search needs
+
+array-read-result : tie.Need-array-read-result Inv-loop μ-loop
+array-read-result c = search needs
+
+may-run-requires : tie.Need-may-run-requires Inv-loop μ-loop
+may-run-requires c κs = search needs
+
+returns-2 : tie.Need-returns-2 Inv-loop μ-loop
+returns-2 c =
+    let a = c .before .before .before .before .before .before .before .before .args .t1 in
+    let l = c .before .before .before .loop in
+    let e : l .t ≡ 32 = omega arith in
+    let b = ap (λ (r : List ℕ). eqb (getD r 32 0) 0) (c .before .before .before .before .tally .ensures) ∙ tally-below (members (a .order)) in
+    let z = sym (ap (λ (n : ℕ). allBelow n (placed a)) e) ∙ l .inv .2 in
+    rw (c .before .is-clean .ensures, b, c .may-run .ensures, c .before .before .before .before .before .thread-at .ensures) (sym (sound-parts a (l .inv .1) ∙ rw (z, and-true)))
 
 pub is-sound-spec : {M : Type 1} → statement M
-is-sound-spec = tie.close (tie.spec is-steady-requires is-running-requires returns)
+is-sound-spec =
+    tie.close
+    (tie.spec
+    Inv-loop
+    μ-loop
+    thread-at-requires
+    tally-requires
+    loop-holds
+    mul-is-placed
+    element-copy-out-is-placed
+    array-read-is-placed
+    is-placed-requires
+    returns
+    add-t
+    loop-less
+    loop-again
+    is-clean-requires
+    array-read-result
+    may-run-requires
+    returns-2)

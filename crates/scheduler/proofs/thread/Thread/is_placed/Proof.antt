@@ -1,0 +1,86 @@
+use mathlib.Core.Path.{_≡_, sym, ap, _∙_}
+use mathlib.Core.Bool.{Bool, true, false, _&&_}
+use Prim.Native.Nat.{_≤_, _<_}
+use native.Mathlib.Omega.{arith}
+use lib.Dec.{eqb}
+use Rattle.lines.specs.Logic.{oneIf}
+use Rattle.scheduler.proofs.Laws.Threads.{fit-uncreated, ready-stands}
+use Rattle.scheduler.proofs.Laws.Placing.{not-ready, none-stands-uncreated, rest-stands, wait-stands, ready-in, placed-ready, placed-other}
+use borrow.Author.Needs.{needs}
+use Rattle.scheduler.proofs.thread.Thread.is_placed.Statement.{statement}
+use Rattle.scheduler.proofs.thread.Thread.is_placed.Tie as tie
+
+is-fit-ready-requires : tie.Need-is-fit-ready-requires
+is-fit-ready-requires c κs = search needs
+
+returns : tie.Need-returns
+unfolding oneIf
+returns c =
+    let a = c .before .before .before .before .args in
+    let made = c .before .before .before .if1 .taken in
+    let s = c .before .if2 .taken in
+    ap (λ (b : Bool). eqb (a .n) 1 && b) (c .is-fit-ready .ensures made s) ∙ placed-ready (a .n) (a .limit) (a .self) (ready-in (a .self) made s)
+
+is-fit-resting-requires : tie.Need-is-fit-resting-requires
+is-fit-resting-requires c κs = search needs
+
+returns-2 : tie.Need-returns-2
+unfolding oneIf
+returns-2 c =
+    let a = c .before .before .before .before .before .before .args in
+    let l : 0 < a .self .state = omega arith in
+    let h = c .before .if3 .taken in
+    ap (λ (b : Bool). eqb (a .n) 0 && b) (c .is-fit-resting .ensures (c .before .before .before .before .before .if1 .taken) l h)
+    ∙ placed-other (a .n) (a .limit) (a .self) false (rest-stands (a .self) l (omega arith)) (not-ready (a .self) l)
+
+is-fit-paused-requires : tie.Need-is-fit-paused-requires
+is-fit-paused-requires c κs = search needs
+
+returns-3 : tie.Need-returns-3
+unfolding oneIf
+returns-3 c =
+    let a = c .before .before .before .before .before .before .before .before .args in
+    let l : 0 < a .self .state = omega arith in
+    let h : 4 ≤ a .self .state = omega arith in
+    ap (λ (b : Bool). eqb (a .n) 0 && b) (c .is-fit-paused .ensures (c .before .before .before .before .before .before .before .if1 .taken) h)
+    ∙ placed-other (a .n) (a .limit) (a .self) false (rest-stands (a .self) l (omega arith)) (not-ready (a .self) l)
+
+is-fit-paused-requires-2 : tie.Need-is-fit-paused-requires-2
+is-fit-paused-requires-2 c κs = search needs
+
+returns-4 : tie.Need-returns-4
+unfolding oneIf
+returns-4 c =
+    let a = c .before .before .before .before .before .before .before .before .args in
+    let made = c .before .before .before .before .before .before .before .if1 .taken in
+    let l : 0 < a .self .state = omega arith in
+    let h : 4 < a .self .state = omega arith in
+    let w : 4 ≤ a .self .state = omega arith in
+    ap (λ (b : Bool). eqb (a .n) 1 && b) (c .is-fit-paused2 .ensures made w)
+    ∙ placed-other (a .n) (a .limit) (a .self) true (wait-stands (a .self) made h) (not-ready (a .self) l)
+
+is-zero-requires : tie.Need-is-zero-requires
+is-zero-requires c κs = search needs
+
+returns-5 : tie.Need-returns-5
+unfolding oneIf
+returns-5 c =
+    let a = c .before .before .args in
+    let u = none-stands-uncreated (a .self) (c .before .if1 .left) in
+    ap (λ (b : Bool). eqb (a .n) 0 && b) (c .is-zero .ensures ∙ sym (fit-uncreated (a .self) (c .before .if1 .left)))
+    ∙ placed-other (a .n) (a .limit) (a .self) false (u .1) (u .0)
+
+pub is-placed-spec : {M : Type 1} → statement M
+is-placed-spec =
+    tie.close
+    (tie.spec
+    is-fit-ready-requires
+    returns
+    is-fit-resting-requires
+    returns-2
+    is-fit-paused-requires
+    returns-3
+    is-fit-paused-requires-2
+    returns-4
+    is-zero-requires
+    returns-5)
