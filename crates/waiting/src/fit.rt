@@ -1,6 +1,10 @@
 // Tests of what a thread holds and waits for, and of the tables of objects.
 ghost use mathlib.Core.Path.{_≡_};
-ghost use Rattle.waiting.specs.Fit.{blankFrom, waitsOnb, heldFitb, semaphoreWaitb, queueWaitb, groupWaitb, poolWaitb, semaphoresFitb, queuesFitb, groupsFitb, poolsFitb};
+ghost use Rattle.waiting.specs.Fit.{blankFrom, waitsOnb, heldFitb, semaphoreWaitb, queueWaitb, groupWaitb, poolWaitb, semaphoresFitb, groupsFitb};
+ghost use lib.Dec.{eqb};
+ghost use mathlib.Core.Bool.{true, false};
+ghost use Rattle.scheduler.specs.Threads.{pausedb};
+ghost use Rattle.scheduler.specs.declared.thread.Thread.{Thread};
 use blocks::pool::Pool;
 use calls::held::Held;
 use calls::status::WAITING;
@@ -24,6 +28,19 @@ pub fn is_blank(words: [u32; 16], from: u8) -> bool
         i += 1;
     }
     blank
+}
+
+// The bits of all words joined: 0 where every word is zero.
+fn joined(words: [u32; 16]) -> u32
+    ensures { λ r. ⌜ eqb r 0 ≡ blankFrom 0 words ⌝ }
+{
+    let mut any: u32 = 0;
+    let mut i: usize = 0;
+    while i < 16 {
+        any = any | words[i];
+        i += 1;
+    }
+    any
 }
 
 // Whether a thread is in that state, one of waiting on an object.
@@ -51,6 +68,40 @@ pub fn held_fits(th: Thread, h: Held) -> bool
     let request = (h.option <= 3) & (on_flags | ((h.request == 0) & (h.option == 0)));
     let unheld = th.created | ((h.status == 0) & no_words);
     status & words & sender & request & unheld
+}
+
+// Whether what a created thread holds fits its record, asked of one that neither waits nor sleeps: the quick case.
+pub fn resting_fits(h: Held) -> bool
+    ensures { λ r. ⌜ ((th : Thread) → th .created ≡ true → pausedb th ≡ false → r ≡ heldFitb th h) ⌝ }
+{
+    let message = h.message;
+    let any = joined(message) | h.request | (h.option as u32);
+    if any != 0 {
+        return false;
+    }
+    if h.sending {
+        return false;
+    }
+    if h.front {
+        return false;
+    }
+    h.status != WAITING
+}
+
+// Whether what an uncreated thread holds fits its record: it is zero.
+pub fn unheld_fits(h: Held) -> bool
+    ensures { λ r. ⌜ ((th : Thread) → th .created ≡ false → r ≡ heldFitb th h) ⌝ }
+{
+    let message = h.message;
+    let words = h.words;
+    let any = joined(message) | joined(words) | h.request | (h.option as u32) | h.status;
+    if any != 0 {
+        return false;
+    }
+    if h.sending {
+        return false;
+    }
+    !h.front
 }
 
 // Whether a semaphore may have a waiter.
@@ -97,36 +148,12 @@ pub fn semaphores_fit(all: [Semaphore; 16]) -> bool
     ok
 }
 
-pub fn queues_fit(all: [Queue; 8]) -> bool
-    ensures { λ r. ⌜ r ≡ queuesFitb all ⌝ }
-{
-    let mut ok = true;
-    let mut n: usize = 0;
-    while n < 8 {
-        ok = ok & all[n].is_fit();
-        n += 1;
-    }
-    ok
-}
-
 pub fn groups_fit(all: [Group; 8]) -> bool
     ensures { λ r. ⌜ r ≡ groupsFitb all ⌝ }
 {
     let mut ok = true;
     let mut n: usize = 0;
     while n < 8 {
-        ok = ok & all[n].is_fit();
-        n += 1;
-    }
-    ok
-}
-
-pub fn pools_fit(all: [Pool; 4]) -> bool
-    ensures { λ r. ⌜ r ≡ poolsFitb all ⌝ }
-{
-    let mut ok = true;
-    let mut n: usize = 0;
-    while n < 4 {
         ok = ok & all[n].is_fit();
         n += 1;
     }
