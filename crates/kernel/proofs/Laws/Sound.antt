@@ -27,6 +27,7 @@ use Rattle.objects.specs.Groups.{noGroup, groupFitb}
 use Rattle.blocks.specs.Pools.{noPool, poolZerob, poolFitb}
 use Rattle.calls.specs.declared.held.Held.{Held}
 use Rattle.calls.specs.Held.{holding}
+use Rattle.waiting.proofs.Laws.Fit.{waits-nowhere}
 use Rattle.kernel.specs.declared.Kernel.{Kernel}
 use Rattle.kernel.specs.Tables.{started, threadOf, heldAt, semaphoreAt, queueAt, groupAt, poolAt}
 use Rattle.waiting.specs.Fit.{blankFrom, waitsOnb, sendsb, statusFitb, wordsFitb, senderFitb, requestFitb, unheldFitb, heldFitb, semaphoreWaitb, queueWaitb, groupWaitb, poolWaitb, semaphoresFitb, queuesFitb, groupsFitb, poolsFitb}
@@ -92,6 +93,19 @@ module _ (k : Kernel) (t : ℕ) (th : Thread) (e : th ≡ threadOf k t) where
 
   pub waits-none : on onQueue false → on onSemaphore false → on onFlags false → on onBlock false → waitFitb k t ≡ true
   waits-none a b c d = on-none k t (kept 5 false a) (kept 6 false b) (kept 7 false c) (kept 8 false d)
+
+  -- who neither waits nor sleeps
+  pub waits-rest : pausedb th ≡ false → waitFitb k t ≡ true
+  waits-rest p = waits-none (waits-nowhere 5 th (omega arith) p) (waits-nowhere 6 th (omega arith) p) (waits-nowhere 7 th (omega arith) p) (waits-nowhere 8 th (omega arith) p)
+
+  -- what such a thread holds, and what an uncreated one holds
+  pub resting-read : (h : Held) → h ≡ heldAt k t → (b : Bool)
+      → ((x : Thread) → x .created ≡ true → pausedb x ≡ false → b ≡ heldFitb x h) → th .created ≡ true → pausedb th ≡ false → b ≡ heldFitb (threadOf k t) (heldAt k t)
+  resting-read h d b f made p = f th made p ∙ ap₂ heldFitb e d
+
+  pub unheld-read : (h : Held) → h ≡ heldAt k t → (b : Bool)
+      → ((x : Thread) → x .created ≡ false → b ≡ heldFitb x h) → th .created ≡ false → b ≡ heldFitb (threadOf k t) (heldAt k t)
+  unheld-read h d b f u = f th u ∙ ap₂ heldFitb e d
 
   pub waits-queue : (h : Held) (q : Queue) → h ≡ heldAt k t → q ≡ queueAt k (th .object) → on onQueue true → queueWaitb h q ≡ waitFitb k t
   waits-queue h q x y w = ap₂ queueWaitb x (y ∙ ap (λ (r : Thread). queueAt k (r .object)) e) ∙ sym (on-queue k t (kept 5 true w))

@@ -16,7 +16,7 @@ use Rattle.calls.specs.Statuses as Statuses
 use Rattle.waiting.specs.Fit.{blankFrom, waitsOnb, sendsb, statusFitb, wordsFitb, senderFitb, requestFitb, unheldFitb, heldFitb}
 
 -- who does not wait or sleep waits on nothing
-waits-nowhere : (n : ℕ) (th : Thread) → 4 < n → pausedb th ≡ false → waitsOnb n th ≡ false
+pub waits-nowhere : (n : ℕ) (th : Thread) → 4 < n → pausedb th ≡ false → waitsOnb n th ≡ false
 unfolding waitsOnb pausedb waitsb
 waits-nowhere n th l p =
     by-test (th .created && eqb (th .state) n)
