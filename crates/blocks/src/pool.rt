@@ -64,20 +64,22 @@ impl Pool {
         let blocks = self.blocks();
         let n = self.listed() as usize;
         let mut counts: [u8; 64] = [0; 64];
-        let mut known = true;
-        let mut once = true;
         let mut i: usize = 0;
         while i < n {
             let x = list[i];
             let k = x as usize;
             i += 1;
-            known = known & ((x as u32) < blocks);
+            if blocks <= x as u32 {
+                return false;
+            }
             if k < 64 {
-                once = once & (counts[k] == 0);
+                if counts[k] != 0 {
+                    return false;
+                }
                 counts[k] = counts[k] + 1;
             }
         }
-        known & once
+        true
     }
 
     // Whether the slots behind the free blocks are zero.
@@ -85,14 +87,14 @@ impl Pool {
         ensures { λ r. ⌜ r ≡ zeroFrom (self .free) (self .list) ⌝ }
     {
         let list = self.list;
-        let free = self.free;
-        let mut clean = true;
-        let mut i: u8 = 0;
+        let n = self.listed() as usize;
+        let mut any: u8 = 0;
+        let mut i = n;
         while i < 64 {
-            clean = clean & ((i < free) | (list[i as usize] == 0));
+            any = any | list[i];
             i += 1;
         }
-        clean
+        any == 0
     }
 
     // Whether the record is fit in itself: sizes within bounds, each free block listed once, what is not in use zero.

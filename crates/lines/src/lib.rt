@@ -169,14 +169,14 @@ impl Line {
         ensures { λ r. ⌜ r ≡ cleanb self ⌝ }
     {
         let ids = self.ids;
-        let len = self.len as usize;
-        let mut clean = true;
-        let mut i: usize = 0;
+        let n = self.size() as usize;
+        let mut any: u8 = 0;
+        let mut i = n;
         while i < 32 {
-            clean = clean & ((i < len) | (ids[i] == 0));
+            any = any | ids[i];
             i += 1;
         }
-        (len <= 32) & clean
+        (self.len <= 32) & (any == 0)
     }
 }
 

@@ -77,14 +77,14 @@ impl Queue {
         ensures { λ r. ⌜ r ≡ zeroFrom (usedWords self) (self .store) ⌝ }
     {
         let store = self.store;
-        let used = (self.stored as u32) * (self.words as u32);
-        let mut clean = true;
-        let mut i: u32 = 0;
+        let n = self.used();
+        let mut any: u32 = 0;
+        let mut i = n;
         while i < 64 {
-            clean = clean & ((i < used) | (store[i as usize] == 0));
+            any = any | store[i];
             i += 1;
         }
-        clean
+        any == 0
     }
 
     // Whether the record is fit in itself: sizes and messages within bounds, what is not in use zero.

@@ -5,13 +5,13 @@ use mathlib.Core.Bool.{Bool, true, false, _&&_, not, and-true, and-false, and-as
 use Prim.Native.Nat.{ℕ, zero, suc, _+_, _≤_, _<_}
 use native.Mathlib.Nat.{not-suc-le-zero, le-of-suc-le-suc}
 use native.Mathlib.Omega.{arith}
-use lib.ListN.{length, take, drop, getD, set}
-use lib.Seq.{getD-set-same, getD-set-other}
+use lib.ListN.{length, take, drop, getD, set, length-take}
+use lib.Seq.{getD-take, getD-set-same, getD-set-other}
 use lib.Dec.{eqb, ltb, leb}
 use borrow.Author.Tests.{ltb-true, lt-ltb, leb-true, le-leb, eqb-true, eq-eqb, ne-eqb}
 use Rattle.lines.specs.Logic.{oneIf}
 use Rattle.lines.specs.Lists.{count, below}
-use Rattle.lines.proofs.Laws.Logic.{by-eq, and-left, and-right, and-in, one-at-most, all-at, all-in}
+use Rattle.lines.proofs.Laws.Logic.{by-test, by-eq, and-left, and-right, and-in, one-at-most, all-at, all-in}
 use Rattle.lines.proofs.Laws.Lists.{length-without, count-one}
 use Rattle.lines.proofs.Laws.Lines.{take-one}
 use Rattle.lines.proofs.Laws.Slots.{same-test, all-same}
@@ -138,3 +138,39 @@ module _ (i : ℕ) (xs : List ℕ) (h : i < length xs) where
       all-same 64 (λ k. leb (count k (take i xs)) 1) (λ k. leb (count k (take (i + 1) xs)) 1)
       (λ k m. let w : oneIf (eqb next k) ≡ 0 = ap oneIf (ne-eqb next k (λ z. not-suc-le-zero (let y : 1 ≤ 0 = omega (arith, z, l, m) in y))) in
       ap (λ (j : ℕ). leb j 1) (let c = count-next k in let z : count k (take i xs) ≡ count k (take (i + 1) xs) = omega (arith, w, c) in z))
+
+-- ---- what breaks a listing
+-- a number that is no block
+pub below-broken : (b i n : ℕ) (xs : List ℕ) → i < n → i < length xs → b ≤ getD xs i 0 → below b (take n xs) ≡ false
+below-broken b i n xs l h o =
+    by-test (below b (take n xs))
+    (λ e. let m = length-take n xs in
+    let g = getD-take n xs i 0 l in
+    let s = below-at b (take n xs) e i (omega (arith, m, l, h)) in
+    absurd (omega (arith, g, s, o)))
+    (λ e. e)
+
+-- a longer part lists no number less often
+count-grows : (t j n : ℕ) (xs : List ℕ) → j ≤ n → count t (take j xs) ≤ count t (take n xs)
+unfolding count
+count-grows t zero n xs h = omega arith
+count-grows t (suc j) zero xs h = absurd (not-suc-le-zero h)
+count-grows t (suc j) (suc n) [] h = omega arith
+count-grows t (suc j) (suc n) (x ∷ xs) h =
+    let r = count-grows t j n xs (le-of-suc-le-suc h) in
+    let a : count t (take (suc j) (x ∷ xs)) ≡ oneIf (eqb x t) + count t (take j xs) = refl in
+    let b : count t (take (suc n) (x ∷ xs)) ≡ oneIf (eqb x t) + count t (take n xs) = refl in
+    omega (arith, r, a, b)
+
+-- a number that is listed again
+pub once-broken : (i n : ℕ) (xs : List ℕ) → i < n → i < length xs → getD xs i 0 < 64 → (count (getD xs i 0) (take i xs) ≡ 0 → ⊥) → onceb (take n xs) ≡ false
+unfolding onceb oneIf
+once-broken i n xs l h s o =
+    by-test (onceb (take n xs))
+    (λ e. let x = getD xs i 0 in
+    let m = leb-true (count x (take n xs)) 1 (all-at 64 (λ k. leb (count k (take n xs)) 1) e x s) in
+    let g = count-grows x (i + 1) n xs (omega (arith, l)) in
+    let w : oneIf (eqb x x) ≡ 1 = ap oneIf (eq-eqb x x refl) in
+    let c = count-next i xs h x in
+    absurd (o (omega (arith, m, g, w, c))))
+    (λ e. e)

@@ -9,7 +9,7 @@ use lib.ListN.{length, take, drop, getD, replicate, length-take, length-replicat
 use lib.Seq.{take-nil, drop-nil, ext-getD, getD-append-add}
 use lib.Bits.{bitOr, and-le-l, and-le-r, or-add-and}
 use lib.Dec.{eqb, ltb}
-use borrow.Author.Tests.{eqb-true, eq-eqb, le-ltb, ltb-false}
+use borrow.Author.Tests.{eqb-true, eq-eqb, lt-ltb, le-ltb, ltb-true, ltb-false}
 use Rattle.lines.specs.Logic.{allBelow}
 use Rattle.lines.proofs.Laws.Logic.{by-test, and-left, and-right, and-in, or-left, or-right, or-rest, all-at, all-in, all-more}
 use Rattle.lines.specs.Slots.{zeroFrom}
@@ -102,10 +102,28 @@ or-none a b =
     let q = eqb-true b 0 (and-right (eqb a 0) (eqb b 0) e) in
     eq-eqb (bitOr a b) 0 (omega (arith, p, q, or-add-and a b)))
 
+-- the slots in use are not looked at
+pub tail-start : (m n : ℕ) (xs : List ℕ) → m ≤ n → true ≡ allBelow m (λ k. ltb k n || eqb (getD xs k 0) 0)
+tail-start m n xs l = sym (all-in m (λ k. ltb k n || eqb (getD xs k 0) 0) (λ k h. or-left (ltb k n) (eqb (getD xs k 0) 0) (lt-ltb k n (omega (arith, h, l)))))
+
 -- one slot more
+pub tail-more : (any i n : ℕ) (xs : List ℕ) → n ≤ i → eqb any 0 ≡ allBelow i (λ k. ltb k n || eqb (getD xs k 0) 0)
+    → eqb (bitOr any (getD xs i 0)) 0 ≡ allBelow (i + 1) (λ k. ltb k n || eqb (getD xs k 0) 0)
+tail-more any i n xs l e =
+    or-none any (getD xs i 0)
+    ∙ ap₂ _&&_ e (sym (ap (λ (b : Bool). b || eqb (getD xs i 0) 0) (le-ltb i n l)))
+    ∙ all-more (λ k. ltb k n || eqb (getD xs k 0) 0) i
+
 pub zero-more : (any i : ℕ) (xs : List ℕ) → eqb any 0 ≡ allBelow i (λ k. ltb k 0 || eqb (getD xs k 0) 0)
     → eqb (bitOr any (getD xs i 0)) 0 ≡ allBelow (i + 1) (λ k. ltb k 0 || eqb (getD xs k 0) 0)
-zero-more any i xs e =
-    or-none any (getD xs i 0)
-    ∙ ap₂ _&&_ e (sym (ap (λ (b : Bool). b || eqb (getD xs i 0) 0) (le-ltb i 0 (omega arith))))
-    ∙ all-more (λ k. ltb k 0 || eqb (getD xs k 0) 0) i
+zero-more any i xs e = tail-more any i 0 xs (omega arith) e
+
+-- 64 slots have no more in use than 64
+pub zero-cut : (n m : ℕ) (xs : List ℕ) → m ≡ min n 64 → zeroFrom m xs ≡ zeroFrom n xs
+unfolding zeroFrom
+zero-cut n m xs e =
+    all-same 64 (λ k. ltb k m || eqb (getD xs k 0) 0) (λ k. ltb k n || eqb (getD xs k 0) 0)
+    (λ k l. ap (λ (b : Bool). b || eqb (getD xs k 0) 0)
+    (by-test (ltb k n)
+    (λ w. lt-ltb k m (let h = ltb-true k n w in omega (arith, h, e, l)) ∙ sym w)
+    (λ w. le-ltb k m (let h = ltb-false k n w in omega (arith, h, e, l)) ∙ sym w)))

@@ -1,33 +1,38 @@
-use mathlib.Core.Path.{_≡_, refl, ap, _∙_}
-use mathlib.Core.Bool.{Bool, _&&_, _||_}
-use Prim.Native.Nat.{_≤_, _-_}
+use mathlib.Core.Path.{_≡_}
+use mathlib.Core.Bool.{_||_}
+use Prim.Native.Nat.{_≤_, _-_, min}
 use native.Mathlib.Omega.{arith}
 use borrow.Author.Needs.{needs}
-use lib.ListN.{length, getD}
+use lib.ListN.{length, getD, length-take}
 use lib.Dec.{eqb, ltb}
 use Rattle.lines.specs.Logic.{allBelow}
-use Rattle.lines.specs.Lines.{cleanb}
-use Rattle.lines.proofs.Laws.Logic.{all-more}
+use Rattle.lines.specs.Lines.{members, cleanb}
+use Rattle.lines.proofs.Laws.Slots.{tail-start, tail-more}
 use Rattle.lines.proofs.Line.is_clean.Statement.{statement}
 use Rattle.lines.proofs.Line.is_clean.Tie as tie
 
 abbrev Inv-loop : tie.InvT-loop
-Inv-loop ids len clean₀ i₀ clean i = (i ≤ 32) × (length ids ≡ 32) × (clean ≡ allBelow i (λ k. ltb k len || eqb (getD ids k 0) 0))
+Inv-loop self ids n any₀ i₀ any i = (n ≤ i) × (i ≤ 32) × (length ids ≡ 32) × (n ≡ min (self .len) 32) × (eqb any 0 ≡ allBelow i (λ k. ltb k (self .len) || eqb (getD ids k 0) 0))
 
 abbrev μ-loop : tie.MeasureT-loop
-μ-loop ids len clean₀ i₀ clean i = 32 - i
+μ-loop self ids n any₀ i₀ any i = 32 - i
 
-cast-len : tie.Need-cast-len Inv-loop μ-loop
-cast-len c = search needs
+size-requires : tie.Need-size-requires Inv-loop μ-loop
+size-requires c κs = search needs
+
+cast-n : tie.Need-cast-n Inv-loop μ-loop
+cast-n c = search needs
 
 loop-holds : tie.Need-loop-holds Inv-loop μ-loop
-unfolding allBelow
+unfolding members
 loop-holds c =
-    let e : length (c .before .before .args .self .ids) ≡ 32 = search needs in
-    (omega arith, e, refl)
+    let a = c .before .before .args .self in
+    let e : length (a .ids) ≡ 32 = search needs in
+    let m : c .size .result ≡ min (a .len) 32 = omega (arith, c .size .ensures, length-take (a .len) (a .ids), e) in
+    (omega arith, omega (arith, m), e, m, tail-start (c .size .result) (a .len) (a .ids) (omega (arith, m)))
 
-array-read-clean : tie.Need-array-read-clean Inv-loop μ-loop
-array-read-clean c = search needs
+array-read-any : tie.Need-array-read-any Inv-loop μ-loop
+array-read-any c = search needs
 
 add-i : tie.Need-add-i Inv-loop μ-loop
 add-i c = search needs
@@ -37,17 +42,17 @@ loop-less c = search needs
 
 loop-again : tie.Need-loop-again Inv-loop μ-loop
 loop-again c =
+    let a = c .before .before .before .before .args .self in
     let l = c .before .loop in
-    let a = c .before .before .before .before .args in
-    (omega arith, l .inv .1, ap (λ (b : Bool). b && (ltb (l .i) (a .self .len) || eqb (getD (a .self .ids) (l .i) 0) 0)) (l .inv .2) ∙ all-more (λ i. ltb i (a .self .len) || eqb (getD (a .self .ids) i 0) 0) (l .i))
+    let i = l .inv in
+    (omega arith, omega arith, i .2, i .3, tail-more (l .any) (l .i) (a .len) (a .ids) (omega (arith, i .3)) (i .4))
 
 returns : tie.Need-returns Inv-loop μ-loop
 unfolding cleanb
 returns c =
-    let l = c .before .loop in
-    let a = c .before .before .before .before .args in
+    let l = c .before .before .loop in
     let e : l .i ≡ 32 = omega arith in
-    rw (l .inv .2, e)
+    rw (l .inv .4, e)
 
 pub is-clean-spec : {M : Type 1} → statement M
 is-clean-spec =
@@ -55,9 +60,10 @@ is-clean-spec =
     (tie.spec
     Inv-loop
     μ-loop
-    cast-len
+    size-requires
+    cast-n
     loop-holds
-    array-read-clean
+    array-read-any
     add-i
     loop-less
     loop-again

@@ -1,33 +1,40 @@
-use mathlib.Core.Path.{_≡_, refl, ap, _∙_}
-use mathlib.Core.Bool.{Bool, _&&_, _||_}
-use Prim.Native.Nat.{_≤_, _-_}
+use mathlib.Core.Path.{_≡_}
+use mathlib.Core.Bool.{_||_}
+use Prim.Native.Nat.{_≤_, _-_, min}
 use native.Mathlib.Omega.{arith}
 use borrow.Author.Needs.{needs}
-use lib.ListN.{length, getD}
+use lib.ListN.{length, getD, length-take}
 use lib.Dec.{eqb, ltb}
 use Rattle.lines.specs.Logic.{allBelow}
-use Rattle.lines.proofs.Laws.Logic.{all-more}
 use Rattle.lines.specs.Slots.{zeroFrom}
+use Rattle.lines.proofs.Laws.Slots.{tail-start, tail-more, zero-cut}
+use Rattle.blocks.specs.Pools.{freeBlocks}
 use Rattle.blocks.proofs.pool.Pool.is_clean.Statement.{statement}
 use Rattle.blocks.proofs.pool.Pool.is_clean.Tie as tie
 
 abbrev Inv-loop : tie.InvT-loop
-Inv-loop list free clean₀ i₀ clean i = (i ≤ 64) × (length list ≡ 64) × (clean ≡ allBelow i (λ k. ltb k free || eqb (getD list k 0) 0))
+Inv-loop list n any₀ i₀ any i = (n ≤ i) × (i ≤ 64) × (length list ≡ 64) × (eqb any 0 ≡ allBelow i (λ k. ltb k n || eqb (getD list k 0) 0))
 
 abbrev μ-loop : tie.MeasureT-loop
-μ-loop list free clean₀ i₀ clean i = 64 - i
+μ-loop list n any₀ i₀ any i = 64 - i
+
+listed-requires : tie.Need-listed-requires Inv-loop μ-loop
+listed-requires c κs = search needs
+
+cast-n : tie.Need-cast-n Inv-loop μ-loop
+cast-n c = search needs
 
 loop-holds : tie.Need-loop-holds Inv-loop μ-loop
-unfolding allBelow
+unfolding freeBlocks
 loop-holds c =
-    let e : length (c .before .args .self .list) ≡ 64 = search needs in
-    (omega arith, e, refl)
+    let a = c .before .before .args .self in
+    let n = c .listed .result in
+    let e : length (a .list) ≡ 64 = search needs in
+    let m : n ≡ min (a .free) 64 = omega (arith, c .listed .ensures, length-take (a .free) (a .list), e) in
+    (omega arith, omega (arith, m), e, tail-start n n (a .list) (omega arith))
 
-cast-clean : tie.Need-cast-clean Inv-loop μ-loop
-cast-clean c = search needs
-
-array-read-clean : tie.Need-array-read-clean Inv-loop μ-loop
-array-read-clean c = search needs
+array-read-any : tie.Need-array-read-any Inv-loop μ-loop
+array-read-any c = search needs
 
 add-i : tie.Need-add-i Inv-loop μ-loop
 add-i c = search needs
@@ -37,16 +44,21 @@ loop-less c = search needs
 
 loop-again : tie.Need-loop-again Inv-loop μ-loop
 loop-again c =
+    let a = c .before .before .before .before .args .self in
     let l = c .before .loop in
-    let a = c .before .before .before .args in
-    (omega arith, l .inv .1, ap (λ (b : Bool). b && (ltb (l .i) (a .self .free) || eqb (getD (a .self .list) (l .i) 0) 0)) (l .inv .2) ∙ all-more (λ i. ltb i (a .self .free) || eqb (getD (a .self .list) i 0) 0) (l .i))
+    let i = l .inv in
+    (omega arith, omega arith, i .2, tail-more (l .any) (l .i) (c .before .before .listed .result) (a .list) (i .0) (i .3))
 
 returns : tie.Need-returns Inv-loop μ-loop
-unfolding zeroFrom
+unfolding freeBlocks zeroFrom
 returns c =
+    let a = c .before .before .before .before .args .self in
+    let n = c .before .before .listed .result in
+    let e : length (a .list) ≡ 64 = search needs in
+    let m : n ≡ min (a .free) 64 = omega (arith, c .before .before .listed .ensures, length-take (a .free) (a .list), e) in
     let l = c .before .loop in
-    let e : l .i ≡ 64 = omega arith in
-    rw (l .inv .2, e)
+    let x : l .i ≡ 64 = omega arith in
+    rw (l .inv .3, x) (zero-cut (a .free) n (a .list) m)
 
 pub is-clean-spec : {M : Type 1} → statement M
 is-clean-spec =
@@ -54,9 +66,10 @@ is-clean-spec =
     (tie.spec
     Inv-loop
     μ-loop
+    listed-requires
+    cast-n
     loop-holds
-    cast-clean
-    array-read-clean
+    array-read-any
     add-i
     loop-less
     loop-again

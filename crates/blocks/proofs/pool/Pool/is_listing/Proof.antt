@@ -1,23 +1,25 @@
-use mathlib.Core.Path.{_≡_, refl, ap, ap₂, _∙_}
-use mathlib.Core.Bool.{Bool, _&&_}
+use mathlib.Core.Path.{_≡_, refl, sym, ap, ap₂, _∙_}
+use mathlib.Core.Bool.{Bool, true, _&&_, and-false}
 use Prim.Native.Nat.{ℕ, _≤_, _<_, _-_}
 use native.Mathlib.Omega.{arith}
 use borrow.Author.Needs.{needs}
+use borrow.Author.Tests.{lt-ltb, eq-eqb}
 use lib.ListN.{length, take, getD, length-set, length-take, getD-replicate}
 use lib.Dec.{eqb, ltb}
 use Rattle.lines.specs.Logic.{allBelow}
 use Rattle.lines.specs.Lists.{count, below}
+use Rattle.lines.proofs.Laws.Logic.{and-in}
 use Rattle.lines.proofs.Laws.Slots.{take-again}
-use Rattle.blocks.specs.Pools.{freeBlocks, onceb, listingb}
-use Rattle.blocks.proofs.Laws.Listings.{Tallied, count-small, tallied-more, tallied-past, below-more, once-more, once-past}
+use Rattle.blocks.specs.Pools.{blocksOf, freeBlocks, onceb, listingb}
+use Rattle.blocks.proofs.Laws.Listings.{Tallied, count-small, tallied-more, tallied-past, below-more, once-more, once-past, below-broken, once-broken}
 use Rattle.blocks.proofs.pool.Pool.is_listing.Statement.{statement}
 use Rattle.blocks.proofs.pool.Pool.is_listing.Tie as tie
 
 abbrev Inv-loop : tie.InvT-loop
-Inv-loop list blocks n counts₀ known₀ once₀ i₀ counts known once i = (i ≤ n) × (n ≤ 64) × (length list ≡ 64) × (length counts ≡ 64) × Tallied counts (take i list) × (known ≡ below blocks (take i list)) × (once ≡ onceb (take i list))
+Inv-loop list blocks n counts₀ i₀ counts i = (i ≤ n) × (n ≤ 64) × (length list ≡ 64) × (length counts ≡ 64) × Tallied counts (take i list) × (below blocks (take i list) ≡ true) × (onceb (take i list) ≡ true)
 
 abbrev μ-loop : tie.MeasureT-loop
-μ-loop list blocks n counts₀ known₀ once₀ i₀ counts known once i = n - i
+μ-loop list blocks n counts₀ i₀ counts i = n - i
 
 blocks-requires : tie.Need-blocks-requires Inv-loop μ-loop
 blocks-requires c κs = search needs
@@ -45,23 +47,51 @@ cast-k c = search needs
 add-i : tie.Need-add-i Inv-loop μ-loop
 add-i c = search needs
 
-cast-known : tie.Need-cast-known Inv-loop μ-loop
-cast-known c = search needs
+cast-if1 : tie.Need-cast-if1 Inv-loop μ-loop
+cast-if1 c = search needs
 
-array-read-once : tie.Need-array-read-once Inv-loop μ-loop
-array-read-once c = search needs
+returns : tie.Need-returns Inv-loop μ-loop
+unfolding listingb freeBlocks
+returns c =
+    let a = c .before .before .before .before .before .before .args .self in
+    let l = c .before .before .loop in
+    let b = c .before .before .before .before .blocks2 in
+    let xs = a .list in
+    let h : l .i < length xs = omega arith in
+    let m = c .before .before .before .listed in
+    let t : take (m .result) xs ≡ take (a .free) xs = ap (λ (n : ℕ). take n xs) (m .ensures) ∙ take-again (a .free) xs in
+    let f = below-broken (b .result) (l .i) (m .result) xs (c .before .loop-test .taken) h (c .if1 .taken) in
+    sym (ap (λ (r : Bool). r && onceb (take (a .free) xs)) (sym (ap₂ below (b .ensures) t) ∙ f))
+
+array-read-if3 : tie.Need-array-read-if3 Inv-loop μ-loop
+array-read-if3 c = search needs
+
+returns-2 : tie.Need-returns-2 Inv-loop μ-loop
+unfolding listingb freeBlocks
+returns-2 c =
+    let a = c .before .before .before .before .before .before .before .before .args .self in
+    let l = c .before .before .before .before .loop in
+    let xs = a .list in
+    let h : l .i < length xs = omega arith in
+    let m = c .before .before .before .before .before .listed in
+    let t : take (m .result) xs ≡ take (a .free) xs = ap (λ (n : ℕ). take n xs) (m .ensures) ∙ take-again (a .free) xs in
+    let s = c .before .if2 .taken in
+    let f = once-broken (l .i) (m .result) xs (c .before .before .before .loop-test .taken) h s (λ z. c .if3 .taken (l .inv .4 (getD xs (l .i) 0) s ∙ z)) in
+    sym (ap (λ (r : Bool). below (blocksOf a) (take (a .free) xs) && r) (sym (ap onceb t) ∙ f) ∙ and-false (below (blocksOf a) (take (a .free) xs)))
 
 array-read-counts : tie.Need-array-read-counts Inv-loop μ-loop
 array-read-counts c = search needs
 
 add-counts : tie.Need-add-counts Inv-loop μ-loop
 add-counts c =
-    let a = c .before .before .before .before .before .before .args in
-    let l = c .before .before .loop in
-    let k = getD (a .self .list) (l .i) 0 in
-    let t = l .inv .4 k (c .if1 .taken) in
-    let s = count-small k (take (l .i) (a .self .list)) in
-    let m = length-take (l .i) (a .self .list) in
+    let a = c .before .before .before .before .before .before .before .before .args .self in
+    let l = c .before .before .before .before .loop in
+    let xs = a .list in
+    let h : l .i < length xs = omega arith in
+    let x = getD xs (l .i) 0 in
+    let t = l .inv .4 x (c .before .if2 .taken) in
+    let s = count-small x (take (l .i) xs) in
+    let m = length-take (l .i) xs in
     omega (arith, t, s, m)
 
 array-write-counts : tie.Need-array-write-counts Inv-loop μ-loop
@@ -72,37 +102,43 @@ loop-less c = search needs
 
 loop-again : tie.Need-loop-again Inv-loop μ-loop
 loop-again c =
-    let a = c .before .before .before .before .before .before .args in
-    let l = c .before .before .loop in
-    let b = c .before .before .before .before .blocks2 .result in
-    let xs = a .self .list in
+    let a = c .before .before .before .before .before .before .before .before .args .self in
+    let l = c .before .before .before .before .loop in
+    let b = c .before .before .before .before .before .before .blocks2 in
+    let xs = a .list in
     let h : l .i < length xs = omega arith in
-    let k = ap (λ (r : Bool). r && ltb (getD xs (l .i) 0) b) (l .inv .5) ∙ below-more b (l .i) xs h in
-    let o = ap₂ _&&_ (l .inv .6) (ap (λ (n : ℕ). eqb n 0) (l .inv .4 (getD xs (l .i) 0) (c .if1 .taken))) ∙ once-more (l .i) xs h (c .if1 .taken) in
-    (omega arith, l .inv .1, l .inv .2, simp length-set (l .inv .3), tallied-more (l .counts) xs (l .i) (l .inv .3) h (c .if1 .taken) (l .inv .4), k, o)
+    let k = sym (below-more (b .result) (l .i) xs h) ∙ and-in (below (b .result) (take (l .i) xs)) (ltb (getD xs (l .i) 0) (b .result)) (l .inv .5) (lt-ltb (getD xs (l .i) 0) (b .result) (c .before .before .if1 .left)) in
+    let s = c .before .if2 .taken in
+    let z = sym (l .inv .4 (getD xs (l .i) 0) s) ∙ c .if3 .left in
+    let o = sym (once-more (l .i) xs h s) ∙ and-in (onceb (take (l .i) xs)) (eqb (count (getD xs (l .i) 0) (take (l .i) xs)) 0) (l .inv .6) (eq-eqb (count (getD xs (l .i) 0) (take (l .i) xs)) 0 z) in
+    (omega arith, l .inv .1, l .inv .2, simp length-set (l .inv .3), tallied-more (l .counts) xs (l .i) (l .inv .3) h s (l .inv .4), k, o)
 
 loop-less-2 : tie.Need-loop-less-2 Inv-loop μ-loop
 loop-less-2 c = search needs
 
 loop-again-2 : tie.Need-loop-again-2 Inv-loop μ-loop
 loop-again-2 c =
-    let a = c .before .before .before .before .before .before .args in
-    let l = c .before .before .loop in
-    let b = c .before .before .before .before .blocks2 .result in
-    let xs = a .self .list in
+    let a = c .before .before .before .before .before .before .before .args .self in
+    let l = c .before .before .before .loop in
+    let b = c .before .before .before .before .before .blocks2 in
+    let xs = a .list in
     let h : l .i < length xs = omega arith in
-    let k = ap (λ (r : Bool). r && ltb (getD xs (l .i) 0) b) (l .inv .5) ∙ below-more b (l .i) xs h in
-    (omega arith, l .inv .1, l .inv .2, l .inv .3, tallied-past (l .counts) xs (l .i) h (c .if1 .left) (l .inv .4), k, l .inv .6 ∙ once-past (l .i) xs h (c .if1 .left))
+    let k = sym (below-more (b .result) (l .i) xs h) ∙ and-in (below (b .result) (take (l .i) xs)) (ltb (getD xs (l .i) 0) (b .result)) (l .inv .5) (lt-ltb (getD xs (l .i) 0) (b .result) (c .before .if1 .left)) in
+    let s = c .if2 .left in
+    (omega arith, l .inv .1, l .inv .2, l .inv .3, tallied-past (l .counts) xs (l .i) h s (l .inv .4), k, sym (once-past (l .i) xs h s) ∙ l .inv .6)
 
-returns : tie.Need-returns Inv-loop μ-loop
+returns-3 : tie.Need-returns-3 Inv-loop μ-loop
 unfolding listingb freeBlocks
-returns c =
-    let a = c .before .before .before .before .before .args in
+returns-3 c =
+    let a = c .before .before .before .before .before .args .self in
     let l = c .before .loop in
-    let xs = a .self .list in
-    let m : l .i ≡ c .before .before .listed .result = omega arith in
-    let t : take (l .i) xs ≡ take (a .self .free) xs = ap (λ (n : ℕ). take n xs) (m ∙ c .before .before .listed .ensures) ∙ take-again (a .self .free) xs in
-    ap₂ _&&_ (l .inv .5 ∙ ap₂ below (c .before .before .before .blocks2 .ensures) t) (l .inv .6 ∙ ap onceb t)
+    let b = c .before .before .before .blocks2 in
+    let xs = a .list in
+    let m = c .before .before .listed in
+    let t : take (m .result) xs ≡ take (a .free) xs = ap (λ (n : ℕ). take n xs) (m .ensures) ∙ take-again (a .free) xs in
+    let e : l .i ≡ m .result = omega arith in
+    let u = ap (λ (n : ℕ). take n xs) e ∙ t in
+    sym (and-in (below (blocksOf a) (take (a .free) xs)) (onceb (take (a .free) xs)) (sym (ap₂ below (b .ensures) u) ∙ l .inv .5) (sym (ap onceb u) ∙ l .inv .6))
 
 pub is-listing-spec : {M : Type 1} → statement M
 is-listing-spec =
@@ -117,8 +153,10 @@ is-listing-spec =
     array-read-x
     cast-k
     add-i
-    cast-known
-    array-read-once
+    cast-if1
+    returns
+    array-read-if3
+    returns-2
     array-read-counts
     add-counts
     array-write-counts
@@ -126,4 +164,4 @@ is-listing-spec =
     loop-again
     loop-less-2
     loop-again-2
-    returns)
+    returns-3)
