@@ -8,7 +8,7 @@ use scheduler::thread::ON_QUEUE;
 use scheduler::thread::ON_SEMAPHORE;
 use waiting::fit::group_waits;
 use waiting::fit::groups_fit;
-use waiting::fit::held_fits;
+use waiting::fit::paused_fits;
 use waiting::fit::pool_waits;
 use waiting::fit::queue_waits;
 use waiting::fit::resting_fits;
@@ -33,7 +33,7 @@ impl Kernel {
             let n = th.object as usize;
             if th.is_paused() {
                 let h = self.held[t];
-                held = held & held_fits(th, h);
+                held = held & paused_fits(th, h);
                 t += 1;
                 if waits_on(th, ON_QUEUE) {
                     if n < 8 {

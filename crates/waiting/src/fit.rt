@@ -50,27 +50,31 @@ pub fn waits_on(th: Thread, state: u8) -> bool
     th.created & (th.state == state)
 }
 
-// Whether what a thread holds fits its record.
-pub fn held_fits(th: Thread, h: Held) -> bool
-    ensures { λ r. ⌜ r ≡ heldFitb th h ⌝ }
+// Whether what a thread holds fits its record, asked of one that waits or sleeps.
+pub fn paused_fits(th: Thread, h: Held) -> bool
+    ensures { λ r. ⌜ (pausedb th ≡ true → r ≡ heldFitb th h) ⌝ }
 {
-    let paused = th.is_paused();
-    let on_queue = waits_on(th, ON_QUEUE);
-    let on_flags = waits_on(th, ON_FLAGS);
     let held_words = h.words;
     let message = h.message;
-    let no_words = is_blank(held_words, 0);
-    let no_message = is_blank(message, 0);
-    let sends = on_queue & h.sending;
-    let status = (!paused | (h.status == WAITING)) & (paused | !(h.status == WAITING));
-    let words = !paused | no_words;
-    let sender = (!h.sending | on_queue) & (!h.front | sends) & (sends | no_message);
-    let request = (h.option <= 3) & (on_flags | ((h.request == 0) & (h.option == 0)));
-    let unheld = th.created | ((h.status == 0) & no_words);
-    status & words & sender & request & unheld
+    let words = joined(held_words);
+    let unsent = (joined(message) == 0) & !h.sending & !h.front;
+    let unasked = (h.request == 0) & (h.option == 0);
+    if words != 0 {
+        return false;
+    }
+    if h.status != WAITING {
+        return false;
+    }
+    if th.state == ON_QUEUE {
+        return (h.sending | unsent) & unasked;
+    }
+    if th.state == ON_FLAGS {
+        return unsent & (h.option <= 3);
+    }
+    unsent & unasked
 }
 
-// Whether what a created thread holds fits its record, asked of one that neither waits nor sleeps: the quick case.
+// Whether what a created thread holds fits its record, asked of one that neither waits nor sleeps.
 pub fn resting_fits(h: Held) -> bool
     ensures { λ r. ⌜ ((th : Thread) → th .created ≡ true → pausedb th ≡ false → r ≡ heldFitb th h) ⌝ }
 {

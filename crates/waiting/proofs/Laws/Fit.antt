@@ -1,4 +1,4 @@
--- Laws of what a thread holds that neither waits nor sleeps: which of its fields are zero.
+-- Laws of what a thread holds, by what it does: which of its fields are zero.
 use mathlib.Core.Path.{_≡_, refl, sym, ap, ap₂, _∙_}
 use mathlib.Core.Bool.{Bool, true, false, _&&_, _||_, not, and-true, and-false, or-false}
 use Prim.Native.Nat.{ℕ, _≤_, _<_}
@@ -142,3 +142,72 @@ module _ (h : Held) (m : ℕ) (e : eqb m 0 ≡ blankFrom 0 (h .message)) where
 
       pub unheld-sending : h .sending ≡ true → heldFitb th h ≡ false
       unheld-sending s = unheld-sender h th unpaused u s
+
+-- ---- who waits or sleeps
+paused-made : (th : Thread) → pausedb th ≡ true → th .created ≡ true
+unfolding pausedb waitsb sleepsb
+paused-made th p = by-test (th .created) (λ e. e) (λ e. never p (rw e))
+
+module _ (h : Held) (th : Thread) (p : pausedb th ≡ true) where
+  abbrev unsent : Bool
+  unsent = blankFrom 0 (h .message) && not (h .sending) && not (h .front)
+
+  paused : heldFitb th h ≡ (eqb (h .status) Statuses.waiting && blankFrom 0 (h .words) && senderFitb th h && requestFitb th h)
+  unfolding heldFitb statusFitb wordsFitb unheldFitb implies
+  paused = rw (p, and-true (eqb (h .status) Statuses.waiting)) (ap (λ (b : Bool). eqb (h .status) Statuses.waiting && blankFrom 0 (h .words) && senderFitb th h && requestFitb th h && (b || (eqb (h .status) 0 && blankFrom 0 (h .words)))) (paused-made th p) ∙ and-true (eqb (h .status) Statuses.waiting && blankFrom 0 (h .words) && senderFitb th h && requestFitb th h))
+
+  on : (n : ℕ) → th .state ≡ n → waitsOnb n th ≡ true
+  unfolding waitsOnb
+  on n s = and-in (th .created) (eqb (th .state) n) (paused-made th p) (eq-eqb (th .state) n s)
+
+  off : (n : ℕ) → (th .state ≡ n → ⊥) → waitsOnb n th ≡ false
+  unfolding waitsOnb
+  off n s = ap (λ (b : Bool). th .created && b) (ne-eqb (th .state) n s) ∙ and-false (th .created)
+
+  sender-on : waitsOnb 5 th ≡ true → senderFitb th h ≡ (h .sending || unsent)
+  unfolding senderFitb sendsb implies
+  sender-on w = rw w (go (h .sending) (h .front) (blankFrom 0 (h .message)))
+    where
+      go : (s f b : Bool) → ((not s || true) && (not f || (true && s)) && ((true && s) || b)) ≡ (s || (b && not s && not f))
+      go true true b = refl
+      go true false b = refl
+      go false true true = refl
+      go false true false = refl
+      go false false true = refl
+      go false false false = refl
+
+  sender-off : waitsOnb 5 th ≡ false → senderFitb th h ≡ unsent
+  unfolding senderFitb sendsb implies
+  sender-off w = rw w (go (h .sending) (h .front) (blankFrom 0 (h .message)))
+    where
+      go : (s f b : Bool) → ((not s || false) && (not f || (false && s)) && ((false && s) || b)) ≡ (b && not s && not f)
+      go true f true = refl
+      go true f false = refl
+      go false true true = refl
+      go false true false = refl
+      go false false true = refl
+      go false false false = refl
+
+  request-on : waitsOnb 7 th ≡ true → requestFitb th h ≡ leb (h .option) 3
+  unfolding requestFitb
+  request-on w = rw (w, and-true)
+
+  request-off : waitsOnb 7 th ≡ false → requestFitb th h ≡ (eqb (h .request) 0 && eqb (h .option) 0)
+  unfolding requestFitb
+  request-off w = rw w (zero-option (h .option) (eqb (h .request) 0))
+
+  pub paused-stained : blankFrom 0 (h .words) ≡ false → heldFitb th h ≡ false
+  paused-stained b = paused ∙ rw (b, and-false)
+
+  pub paused-status : eqb (h .status) Statuses.waiting ≡ false → heldFitb th h ≡ false
+  paused-status e = paused ∙ rw e
+
+  module _ (b : blankFrom 0 (h .words) ≡ true) (e : eqb (h .status) Statuses.waiting ≡ true) where
+    pub paused-queue : th .state ≡ 5 → ((h .sending || unsent) && (eqb (h .request) 0 && eqb (h .option) 0)) ≡ heldFitb th h
+    paused-queue s = sym (paused ∙ rw (b, e, sender-on (on 5 s), request-off (off 7 (λ z. omega (arith, z, s)))))
+
+    pub paused-flags : th .state ≡ 7 → (unsent && leb (h .option) 3) ≡ heldFitb th h
+    paused-flags s = sym (paused ∙ rw (b, e, sender-off (off 5 (λ z. omega (arith, z, s))), request-on (on 7 s)))
+
+    pub paused-other : (th .state ≡ 5 → ⊥) → (th .state ≡ 7 → ⊥) → (unsent && (eqb (h .request) 0 && eqb (h .option) 0)) ≡ heldFitb th h
+    paused-other s z = sym (paused ∙ rw (b, e, sender-off (off 5 s), request-off (off 7 z)))
