@@ -92,12 +92,6 @@ impl Kernel {
         }
         let semaphores = self.semaphores;
         let groups = self.groups;
-        scheduler
-            & held
-            & waits
-            & semaphores_fit(semaphores)
-            & queues
-            & groups_fit(groups)
-            & pools
+        scheduler & held & waits & semaphores_fit(semaphores) & queues & groups_fit(groups) & pools
     }
 }

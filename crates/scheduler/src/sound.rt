@@ -1,8 +1,8 @@
 // The test of the scheduler's tables.
 ghost use mathlib.Core.Path.{_≡_};
-ghost use Rattle.lines.specs.Logic.{if_then_else_};
-ghost use mathlib.Core.Bool.{true, false, _&&_, not};
+ghost use mathlib.Core.Bool.{_&&_, not};
 ghost use lib.Dec.{eqb, ltb};
+ghost use Rattle.lines.specs.Logic.{if_then_else_};
 ghost use Rattle.scheduler.specs.Threads.{readyb};
 ghost use Rattle.scheduler.specs.Sound.{soundb};
 use super::Scheduler;
@@ -20,8 +20,8 @@ fn may_run(r: u8, th: Thread) -> bool
 }
 
 impl Scheduler {
-    // Whether the tables are sound: the line is clean, each thread stands as often as its fit record says, and the runner
-    // may run. With that, nobody ready is better than the runner's threshold.
+    // Whether the tables are sound: the line is clean, each thread stands as often as its fit record says, no ready thread is
+    // better than the runner's threshold, and the runner may run.
     pub fn is_sound(self) -> bool
         ensures { λ r. ⌜ r ≡ soundb self ⌝ }
     {

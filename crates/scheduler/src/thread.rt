@@ -210,9 +210,7 @@ impl Thread {
     fn is_limited(self) -> bool
         ensures { λ r. ⌜ r ≡ limitsb self ⌝ }
     {
-        (self.state <= ON_BLOCK)
-            & (self.priority < WORST)
-            & (self.threshold <= self.priority)
+        (self.state <= ON_BLOCK) & (self.priority < WORST) & (self.threshold <= self.priority)
     }
 
     // Whether a ready thread's record is fit in itself, and the thread not better than `limit`.
@@ -232,11 +230,7 @@ impl Thread {
     fn is_fit_resting(self) -> bool
         ensures { λ r. ⌜ (self .created ≡ true → 0 < self .state → self .state < 4 → r ≡ fitb self) ⌝ }
     {
-        self.is_limited()
-            & !self.marked
-            & !self.suspending
-            & (self.ticks == 0)
-            & (self.object == 0)
+        self.is_limited() & !self.marked & !self.suspending & (self.ticks == 0) & (self.object == 0)
     }
 
     // Whether the record of a thread that waits or sleeps is fit in itself.

@@ -1,10 +1,10 @@
 // Tests of what a thread holds and waits for, and of the tables of objects.
 ghost use mathlib.Core.Path.{_≡_};
-ghost use Rattle.waiting.specs.Fit.{blankFrom, waitsOnb, heldFitb, semaphoreWaitb, queueWaitb, groupWaitb, poolWaitb, semaphoresFitb, groupsFitb};
-ghost use lib.Dec.{eqb};
 ghost use mathlib.Core.Bool.{true, false};
-ghost use Rattle.scheduler.specs.Threads.{pausedb};
+ghost use lib.Dec.{eqb};
 ghost use Rattle.scheduler.specs.declared.thread.Thread.{Thread};
+ghost use Rattle.scheduler.specs.Threads.{pausedb};
+ghost use Rattle.waiting.specs.Fit.{blankFrom, waitsOnb, heldFitb, semaphoreWaitb, queueWaitb, groupWaitb, poolWaitb, semaphoresFitb, groupsFitb};
 use blocks::pool::Pool;
 use calls::held::Held;
 use calls::status::WAITING;

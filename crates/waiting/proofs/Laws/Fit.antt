@@ -62,9 +62,6 @@ module _ (h : Held) where
     pub resting-front : th .created ≡ true → h .front ≡ true → heldFitb th h ≡ false
     resting-front made f = resting made ∙ rw (f, and-false (not (h .sending)), and-false other)
 
-    pub unheld-sender : th .created ≡ false → h .sending ≡ true → heldFitb th h ≡ false
-    unheld-sender u s = unheld u ∙ rw (s, and-false)
-
 -- ---- the bits of the fields joined
 module _ (h : Held) (m : ℕ) (e : eqb m 0 ≡ blankFrom 0 (h .message)) where
   abbrev resting-bits : ℕ
@@ -141,7 +138,7 @@ module _ (h : Held) (m : ℕ) (e : eqb m 0 ≡ blankFrom 0 (h .message)) where
           ∙ rw (s, none, and-left (blankFrom 0 (h .message)) (blankFrom 0 (h .words)) g, and-right (blankFrom 0 (h .message)) (blankFrom 0 (h .words)) g, and-right (blankFrom 0 (h .message) && blankFrom 0 (h .words)) (eqb (h .request) 0) c, and-right (blankFrom 0 (h .message) && blankFrom 0 (h .words) && eqb (h .request) 0) (eqb (h .option) 0) b, and-true, and-true, and-true)
 
       pub unheld-sending : h .sending ≡ true → heldFitb th h ≡ false
-      unheld-sending s = unheld-sender h th unpaused u s
+      unheld-sending s = unheld h th unpaused u ∙ rw (s, and-false)
 
 -- ---- who waits or sleeps
 paused-made : (th : Thread) → pausedb th ≡ true → th .created ≡ true
