@@ -60,7 +60,8 @@ returns c =
     let h : l .i < length xs = omega arith in
     let m = c .before .before .before .listed in
     let t : take (m .result) xs ≡ take (a .free) xs = ap (λ (n : ℕ). take n xs) (m .ensures) ∙ take-again (a .free) xs in
-    let f = below-broken (b .result) (l .i) (m .result) xs (c .before .loop-test .taken) h (c .if1 .taken) in
+    let o : b .result ≤ getD xs (l .i) 0 = omega arith in
+    let f = below-broken (b .result) (l .i) (m .result) xs (c .before .loop-test .taken) h o in
     sym (ap (λ (r : Bool). r && onceb (take (a .free) xs)) (sym (ap₂ below (b .ensures) t) ∙ f))
 
 array-read-if3 : tie.Need-array-read-if3 Inv-loop μ-loop
@@ -107,11 +108,12 @@ loop-again c =
     let b = c .before .before .before .before .before .before .blocks2 in
     let xs = a .list in
     let h : l .i < length xs = omega arith in
-    let k = sym (below-more (b .result) (l .i) xs h) ∙ and-in (below (b .result) (take (l .i) xs)) (ltb (getD xs (l .i) 0) (b .result)) (l .inv .5) (lt-ltb (getD xs (l .i) 0) (b .result) (c .before .before .if1 .left)) in
+    let o : getD xs (l .i) 0 < b .result = omega arith in
+    let k = sym (below-more (b .result) (l .i) xs h) ∙ and-in (below (b .result) (take (l .i) xs)) (ltb (getD xs (l .i) 0) (b .result)) (l .inv .5) (lt-ltb (getD xs (l .i) 0) (b .result) o) in
     let s = c .before .if2 .taken in
     let z = sym (l .inv .4 (getD xs (l .i) 0) s) ∙ c .if3 .left in
-    let o = sym (once-more (l .i) xs h s) ∙ and-in (onceb (take (l .i) xs)) (eqb (count (getD xs (l .i) 0) (take (l .i) xs)) 0) (l .inv .6) (eq-eqb (count (getD xs (l .i) 0) (take (l .i) xs)) 0 z) in
-    (omega arith, l .inv .1, l .inv .2, simp length-set (l .inv .3), tallied-more (l .counts) xs (l .i) (l .inv .3) h s (l .inv .4), k, o)
+    let u = sym (once-more (l .i) xs h s) ∙ and-in (onceb (take (l .i) xs)) (eqb (count (getD xs (l .i) 0) (take (l .i) xs)) 0) (l .inv .6) (eq-eqb (count (getD xs (l .i) 0) (take (l .i) xs)) 0 z) in
+    (omega arith, l .inv .1, l .inv .2, simp length-set (l .inv .3), tallied-more (l .counts) xs (l .i) (l .inv .3) h s (l .inv .4), k, u)
 
 loop-less-2 : tie.Need-loop-less-2 Inv-loop μ-loop
 loop-less-2 c = search needs
@@ -123,7 +125,8 @@ loop-again-2 c =
     let b = c .before .before .before .before .before .blocks2 in
     let xs = a .list in
     let h : l .i < length xs = omega arith in
-    let k = sym (below-more (b .result) (l .i) xs h) ∙ and-in (below (b .result) (take (l .i) xs)) (ltb (getD xs (l .i) 0) (b .result)) (l .inv .5) (lt-ltb (getD xs (l .i) 0) (b .result) (c .before .if1 .left)) in
+    let o : getD xs (l .i) 0 < b .result = omega arith in
+    let k = sym (below-more (b .result) (l .i) xs h) ∙ and-in (below (b .result) (take (l .i) xs)) (ltb (getD xs (l .i) 0) (b .result)) (l .inv .5) (lt-ltb (getD xs (l .i) 0) (b .result) o) in
     let s = c .if2 .left in
     (omega arith, l .inv .1, l .inv .2, l .inv .3, tallied-past (l .counts) xs (l .i) h s (l .inv .4), k, sym (once-past (l .i) xs h s) ∙ l .inv .6)
 
