@@ -43,7 +43,7 @@ is-sound-requires c κs = search needs
 
 returns-2 : tie.Need-returns-2 Inv-loop μ-loop
 unfolding ran ranReplies
-returns-2 c = 
+returns-2 c =
     let a = c .before .before .before .before .before .before .before .args in
     let b = c .before .before .before .before .before .before .before .args .bytes .now in
     let s : c .before .before .wanted .result ≡ min (a .most) (countOf b) = c .before .before .wanted .ensures in
@@ -62,7 +62,7 @@ cast-m c = search needs
 
 loop-holds : tie.Need-loop-holds Inv-loop μ-loop
 unfolding afterRecords repliedAll
-loop-holds c = 
+loop-holds c =
     let a = c .before .before .before .before .before .before .before .before .before .args in
     let b = c .before .before .before .before .before .before .before .before .before .args .bytes .now in
     let n : c .before .before .before .before .wanted .result ≤ countOf b = (let s = c .before .before .before .before .wanted .ensures in omega (arith, s)) in
@@ -99,7 +99,7 @@ loop-less c = search needs
 
 loop-again : tie.Need-loop-again Inv-loop μ-loop
 unfolding answerOf replyOf
-loop-again c = 
+loop-again c =
     let a = c .before .before .before .before .before .before .before .before .before .before .before .before .before .before .before .before .before .before .before .before .before .before .args in
     let l = c .before .before .before .before .before .before .before .before .before .before .before .before .loop in
     let b = c .before .before .before .before .before .before .before .before .before .before .before .before .before .before .before .before .before .before .before .before .before .before .args .bytes .now in
@@ -123,7 +123,7 @@ same-length c = c .before .loop .inv .5
 
 returns-3 : tie.Need-returns-3 Inv-loop μ-loop
 unfolding ran ranReplies
-returns-3 c = 
+returns-3 c =
     let a = c .before .before .before .before .before .before .before .before .before .before .before .args in
     let l = c .before .loop in
     let b = c .before .before .before .before .before .before .before .before .before .before .before .args .bytes .now in
