@@ -1,5 +1,5 @@
 -- The block of bytes that tables are written to: the counterpart of State.
-use mathlib.Core.List.{List, [], _∷_, _++_}
+use mathlib.Core.List.{List, _∷_, _++_}
 use mathlib.Core.Bool.{Bool}
 use Prim.Native.Nat.{ℕ, _/_, _%_}
 use Rattle.scheduler.specs.declared.thread.Thread.{Thread}

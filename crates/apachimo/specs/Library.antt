@@ -1,7 +1,7 @@
 -- The functions that C and Rust call: what each answers, and what it leaves in the lent blocks.
 use mathlib.Core.List.{List}
 use Prim.Native.Nat.{ℕ, _*_, min}
-use lib.ListN.{length, replicate}
+use lib.ListN.{length}
 use lib.Dec.{eqb, ltb}
 use Rattle.lines.specs.Logic.{if_then_else_}
 use Rattle.lines.specs.Lists.{nobody}
@@ -10,9 +10,7 @@ use Rattle.calls.specs.Statuses as Statuses
 use Rattle.tape.specs.declared.replies.Reply.{Reply}
 use Rattle.tape.specs.Replies.{replySize}
 use Rattle.tape.specs.Tapes.{refusedb, countOf}
-use Rattle.kernel.specs.declared.Kernel.{Kernel}
 use Rattle.kernel.specs.declared.Answer.{Answer}
-use Rattle.kernel.specs.declared.run.Ran.{Ran}
 use Rattle.kernel.specs.Tables.{started}
 use Rattle.kernel.specs.Sound.{soundb}
 use Rattle.kernel.specs.General.{call}

@@ -3,7 +3,6 @@
 // The tables cross as a block of bytes that the caller lends: the fields in the kernel's order, words with the least byte
 // first, no gaps. Every block is answered: one of another size with 0x05, one that holds no sound tables with 0x100.
 ghost use mathlib.Core.Path.{_≡_};
-ghost use mathlib.Core.Bool.{Bool};
 ghost use lib.ListN.{length};
 ghost use Rattle.kernel.specs.Claims.{doneb};
 ghost use Rattle.kernel.specs.General.{call};

@@ -1,5 +1,5 @@
 -- Laws of refusals: a block that is not refused has its size.
-use mathlib.Core.Path.{_≡_, sym, ap, _∙_}
+use mathlib.Core.Path.{_≡_}
 use mathlib.Core.List.{List}
 use mathlib.Core.Bool.{Bool, true, false}
 use Prim.Native.Nat.{ℕ, _≤_}
@@ -9,7 +9,6 @@ use lib.ListN.{length}
 use lib.Dec.{eqb}
 use borrow.Author.Tests.{eqb-true}
 use Rattle.lines.specs.Logic.{if_then_else_}
-use Rattle.lines.proofs.Laws.Logic.{by-test}
 use Rattle.apachimo.specs.State.{stateBytes}
 use Rattle.apachimo.specs.Library.{blockRefusal, runRefusal}
 
