@@ -7,11 +7,13 @@ ghost use Rattle.kernel.specs.Groups.{groupPlace, groupCreate, groupDele
 use super::Answer;
 use super::Kernel;
 use super::two_words;
+use super::waits::with_runner_waiting;
 use calls::call::option_of;
 use calls::held::Held;
 use calls::refusal;
 use calls::status::DELETED;
 use calls::status::SUCCESS;
+use calls::status::WAITING;
 use matching::woken;
 use objects::group::Group;
 use objects::group::GroupId;
@@ -136,12 +138,23 @@ impl Kernel {
             return self.refused(reason);
         }
         let o = option_of(option);
+        let mut s = self.scheduler;
+        let mut status = SUCCESS;
+        let mut words: [u32; 16] = [0; 16];
         if is_met(g.flags, request, o) {
-            let s = self.scheduler;
+            words = two_words(g.flags, 0);
             let changed = groups_with(all, n, Group::of(less(g.flags, cleared_by(request, o))));
             self.groups = changed;
-            return self.carried(s, SUCCESS, two_words(g.flags, 0), 0);
+        } else {
+            let t = s.running;
+            let i = t.0 as usize;
+            s = with_runner_waiting(s, false, ON_FLAGS, n.0, wait);
+            status = WAITING;
+            if i < 32 {
+                let h = Held::requester(request, o);
+                self.held[i] = h;
+            }
         }
-        self.started_wait(false, ON_FLAGS, n.0, wait, Held::requester(request, o))
+        self.carried(s, status, words, 0)
     }
 }

@@ -7,6 +7,7 @@ ghost use Rattle.kernel.specs.Pools.{poolPlace, poolCreate, poolDelete, 
 use super::Answer;
 use super::Kernel;
 use super::two_words;
+use super::waits::with_runner_waiting;
 use blocks::pool::Pool;
 use blocks::pool::PoolId;
 use calls::held::Held;
@@ -91,14 +92,24 @@ impl Kernel {
         if reason != 0 {
             return self.refused(reason);
         }
+        let mut s = self.scheduler;
+        let mut status = SUCCESS;
+        let mut words: [u32; 16] = [0; 16];
         if p.has_free() {
-            let s = self.scheduler;
-            let words = two_words(p.next() as u32, 0);
+            words = two_words(p.next() as u32, 0);
             let changed = pools_with(all, n, p.without_next());
             self.pools = changed;
-            return self.carried(s, SUCCESS, words, 0);
+        } else {
+            let t = s.running;
+            let i = t.0 as usize;
+            s = with_runner_waiting(s, false, ON_BLOCK, n.0, wait);
+            status = WAITING;
+            if i < 32 {
+                let h = Held::of(WAITING, [0; 16]);
+                self.held[i] = h;
+            }
         }
-        self.started_wait(false, ON_BLOCK, n.0, wait, Held::of(WAITING, [0; 16]))
+        self.carried(s, status, words, 0)
     }
 
     // The first in line gets the block, else it is free again.
@@ -111,17 +122,20 @@ impl Kernel {
         if reason != 0 {
             return self.refused(reason);
         }
-        let s = self.scheduler;
+        let mut s = self.scheduler;
+        let mut ended: u32 = 0;
         let f = s.first_at(place(n));
         let i = f.0 as usize;
         if i < 32 {
             let h = Held::of(SUCCESS, two_words(block as u32, 0));
             self.held[i] = h;
-            return self.carried(s.woken(f), SUCCESS, [0; 16], 1);
+            s = s.woken(f);
+            ended = 1;
+        } else {
+            let changed = pools_with(all, n, p.with_free(block));
+            self.pools = changed;
         }
-        let changed = pools_with(all, n, p.with_free(block));
-        self.pools = changed;
-        self.carried(s, SUCCESS, [0; 16], 0)
+        self.carried(s, SUCCESS, [0; 16], ended)
     }
 
     pub(crate) fn block_pool_prioritize(self, n: PoolId) -> Answer

@@ -7,9 +7,10 @@ ghost use Rattle.calls.specs.Statuses.{success};
 ghost use Rattle.calls.specs.Messages.{messageIn};
 ghost use Rattle.kernel.specs.Tables.{withQueue};
 ghost use Rattle.kernel.specs.Answers.{answerOf, answered};
-ghost use Rattle.kernel.specs.Queues.{queuePlace, queueCreate, endQueue, queueDelete, sendTo, queueSend, receiveFrom, queueReceive, queueFlush, queuePrioritize};
+ghost use Rattle.kernel.specs.Queues.{queuePlace, queueCreate, endQueue, queueDelete, queueSend, queueReceive, queueFlush, queuePrioritize};
 use super::Answer;
 use super::Kernel;
+use super::waits::with_runner_waiting;
 use calls::held::Held;
 use calls::message::message_in;
 use calls::refusal;
@@ -95,27 +96,10 @@ impl Kernel {
         self.queue_ended(n, Queue::none(), DELETED)
     }
 
-    // A message goes to the first receiver in line, or into the store, or waits with its sender.
-    fn sent(mut self, n: QueueId, q: Queue, wait: u32, front: bool, message: [u32; 16]) -> Answer
-        ensures { λ r. ⌜ r ≡ answerOf (sendTo self (n .0) q wait front message) ⌝ }
-    {
-        if !q.has_room() {
-            return self.started_wait(front, ON_QUEUE, n.0, wait, Held::sender(front, message));
-        }
-        let s = self.scheduler;
-        let f = s.first_at(place(n));
-        let i = f.0 as usize;
-        if i < 32 {
-            let h = Held::of(SUCCESS, message);
-            self.held[i] = h;
-            return self.carried(s.woken(f), SUCCESS, [0; 16], 1);
-        }
-        self.queue_carried(n, q.with_sent(front, message), s, [0; 16], 0)
-    }
-
-    // Send, and front send where `front` says so. The message is at `index` of the lent words.
+    // Send, and front send where `front` says so. The message is at `index` of the lent words; it goes to the first receiver in
+    // line, or into the store, or waits with its sender.
     pub(crate) fn queue_send(
-        self,
+        mut self,
         caller: u32,
         n: QueueId,
         wait: u32,
@@ -131,32 +115,40 @@ impl Kernel {
         if reason != 0 {
             return self.refused(reason);
         }
-        self.sent(n, q, wait, front, message_in(messages, index, q.words))
+        let message = message_in(messages, index, q.words);
+        let mut s = self.scheduler;
+        let mut status = SUCCESS;
+        let mut ended: u32 = 0;
+        if q.has_room() {
+            let f = s.first_at(place(n));
+            let i = f.0 as usize;
+            if i < 32 {
+                let h = Held::of(SUCCESS, message);
+                self.held[i] = h;
+                s = s.woken(f);
+                ended = 1;
+            } else {
+                let left = q.with_sent(front, message);
+                let j = n.0 as usize;
+                if j < 8 {
+                    self.queues[j] = left;
+                }
+            }
+        } else {
+            let t = s.running;
+            let i = t.0 as usize;
+            s = with_runner_waiting(s, front, ON_QUEUE, n.0, wait);
+            status = WAITING;
+            if i < 32 {
+                let h = Held::sender(front, message);
+                self.held[i] = h;
+            }
+        }
+        self.carried(s, status, [0; 16], ended)
     }
 
     // The receiver waits, or gets a message; the first sender in line may then pass or store its own.
-    fn received(mut self, n: QueueId, q: Queue, wait: u32) -> Answer
-        ensures { λ r. ⌜ r ≡ answerOf (receiveFrom self (n .0) q wait) ⌝ }
-    {
-        if q.is_empty() {
-            return self.started_wait(false, ON_QUEUE, n.0, wait, Held::of(WAITING, [0; 16]));
-        }
-        let s = self.scheduler;
-        let f = s.first_at(place(n));
-        let i = f.0 as usize;
-        if i < 32 {
-            let sender = self.held[i];
-            let message = sender.message;
-            let words = q.given_past(sender.front, message);
-            let left = q.left_past(sender.front, message);
-            let h = Held::of(SUCCESS, [0; 16]);
-            self.held[i] = h;
-            return self.queue_carried(n, left, s.woken(f), words, 1);
-        }
-        self.queue_carried(n, q.without_oldest(), s, q.oldest(), 0)
-    }
-
-    pub(crate) fn queue_receive(self, caller: u32, n: QueueId, wait: u32) -> Answer
+    pub(crate) fn queue_receive(mut self, caller: u32, n: QueueId, wait: u32) -> Answer
         ensures { λ r. ⌜ r ≡ answerOf (queueReceive self caller (n .0) wait) ⌝ }
     {
         let all = self.queues;
@@ -165,7 +157,42 @@ impl Kernel {
         if reason != 0 {
             return self.refused(reason);
         }
-        self.received(n, q, wait)
+        let mut s = self.scheduler;
+        let mut status = SUCCESS;
+        let mut ended: u32 = 0;
+        let mut words: [u32; 16] = [0; 16];
+        if q.is_empty() {
+            let t = s.running;
+            let i = t.0 as usize;
+            s = with_runner_waiting(s, false, ON_QUEUE, n.0, wait);
+            status = WAITING;
+            if i < 32 {
+                let h = Held::of(WAITING, [0; 16]);
+                self.held[i] = h;
+            }
+        } else {
+            let f = s.first_at(place(n));
+            let i = f.0 as usize;
+            let mut left = q;
+            if i < 32 {
+                let sender = self.held[i];
+                let message = sender.message;
+                words = q.given_past(sender.front, message);
+                left = q.left_past(sender.front, message);
+                let h = Held::of(SUCCESS, [0; 16]);
+                self.held[i] = h;
+                s = s.woken(f);
+                ended = 1;
+            } else {
+                words = q.oldest();
+                left = q.without_oldest();
+            }
+            let j = n.0 as usize;
+            if j < 8 {
+                self.queues[j] = left;
+            }
+        }
+        self.carried(s, status, words, ended)
     }
 
     pub(crate) fn queue_flush(self, n: QueueId) -> Answer

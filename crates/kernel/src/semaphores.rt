@@ -2,10 +2,11 @@
 ghost use mathlib.Core.Path.{_≡_};
 ghost use lib.ListN.{set};
 ghost use Rattle.kernel.specs.Answers.{answerOf};
-ghost use Rattle.kernel.specs.Semaphores.{semaphorePlace, counting, semaphoreCreate, semaphoreDelete, semaphoreGet, putOn, semaphorePut, semaphoreCeilingPut, semaphorePrioritize};
+ghost use Rattle.kernel.specs.Semaphores.{semaphorePlace, counting, semaphoreCreate, semaphoreDelete, semaphoreGet, semaphorePut, semaphoreCeilingPut, semaphorePrioritize};
 use super::Answer;
 use super::Kernel;
 use super::semaphore_in;
+use super::waits::with_runner_waiting;
 use calls::held::Held;
 use calls::refusal;
 use calls::status::DELETED;
@@ -71,45 +72,51 @@ impl Kernel {
         if reason != 0 {
             return self.refused(reason);
         }
-        let s = self.scheduler;
+        let mut s = self.scheduler;
+        let mut status = SUCCESS;
         if 0 < x.count {
             let changed = semaphores_with(all, n, counting(x.count - 1));
             self.semaphores = changed;
-            return self.carried(s, SUCCESS, [0; 16], 0);
+        } else {
+            let t = s.running;
+            let i = t.0 as usize;
+            s = with_runner_waiting(s, false, ON_SEMAPHORE, n.0, wait);
+            status = WAITING;
+            if i < 32 {
+                let h = Held::of(WAITING, [0; 16]);
+                self.held[i] = h;
+            }
         }
-        self.started_wait(false, ON_SEMAPHORE, n.0, wait, Held::of(WAITING, [0; 16]))
+        self.carried(s, status, [0; 16], 0)
     }
 
     // The first waiter is served, else the count goes up by one.
-    fn put_on(mut self, n: SemaphoreId) -> Answer
-        ensures { λ r. ⌜ r ≡ answerOf (putOn self (n .0)) ⌝ }
+    pub(crate) fn semaphore_put(mut self, n: SemaphoreId) -> Answer
+        ensures { λ r. ⌜ r ≡ answerOf (semaphorePut self (n .0)) ⌝ }
     {
-        let s = self.scheduler;
+        let all = self.semaphores;
+        let x = semaphore_in(all, n);
+        let reason = refusal::semaphore(x);
+        if reason != 0 {
+            return self.refused(reason);
+        }
+        let mut s = self.scheduler;
+        let mut ended: u32 = 0;
         let f = s.first_at(place(n));
         let i = f.0 as usize;
         if i < 32 {
             let h = Held::of(SUCCESS, [0; 16]);
             self.held[i] = h;
-            return self.carried(s.woken(f), SUCCESS, [0; 16], 1);
+            s = s.woken(f);
+            ended = 1;
+        } else {
+            let changed = semaphores_with(all, n, counting(std::num::wrapping_add_u32(x.count, 1)));
+            self.semaphores = changed;
         }
-        let all = self.semaphores;
-        let x = semaphore_in(all, n);
-        let changed = semaphores_with(all, n, counting(std::num::wrapping_add_u32(x.count, 1)));
-        self.semaphores = changed;
-        self.carried(s, SUCCESS, [0; 16], 0)
+        self.carried(s, SUCCESS, [0; 16], ended)
     }
 
-    pub(crate) fn semaphore_put(self, n: SemaphoreId) -> Answer
-        ensures { λ r. ⌜ r ≡ answerOf (semaphorePut self (n .0)) ⌝ }
-    {
-        let all = self.semaphores;
-        let reason = refusal::semaphore(semaphore_in(all, n));
-        if reason != 0 {
-            return self.refused(reason);
-        }
-        self.put_on(n)
-    }
-
+    // A put that the ceiling does not forbid.
     pub(crate) fn semaphore_ceiling_put(self, n: SemaphoreId, ceiling: u32) -> Answer
         ensures { λ r. ⌜ r ≡ answerOf (semaphoreCeilingPut self (n .0) ceiling) ⌝ }
     {
@@ -118,7 +125,7 @@ impl Kernel {
         if reason != 0 {
             return self.refused(reason);
         }
-        self.put_on(n)
+        self.semaphore_put(n)
     }
 
     pub(crate) fn semaphore_prioritize(self, n: SemaphoreId) -> Answer

@@ -9,6 +9,7 @@ use super::Answer;
 use super::Kernel;
 use super::held_in;
 use super::two_words;
+use super::waits::with_runner_waiting;
 use calls::held::Held;
 use calls::refusal;
 use calls::status::SUCCESS;
@@ -177,18 +178,26 @@ impl Kernel {
         }
     }
 
-    pub(crate) fn thread_sleep(self, caller: u32, ticks: u32) -> Answer
+    pub(crate) fn thread_sleep(mut self, caller: u32, ticks: u32) -> Answer
         ensures { λ r. ⌜ r ≡ answerOf (threadSleep self caller ticks) ⌝ }
     {
         let reason = refusal::thread_only(caller);
         if reason != 0 {
             return self.refused(reason);
         }
-        let s = self.scheduler;
-        if ticks == 0 {
-            return self.carried(s, SUCCESS, [0; 16], 0);
+        let mut s = self.scheduler;
+        let mut status = SUCCESS;
+        if ticks != 0 {
+            let t = s.running;
+            let i = t.0 as usize;
+            s = with_runner_waiting(s, false, ASLEEP, 0, ticks);
+            status = WAITING;
+            if i < 32 {
+                let h = Held::of(WAITING, [0; 16]);
+                self.held[i] = h;
+            }
         }
-        self.started_wait(false, ASLEEP, 0, ticks, Held::of(WAITING, [0; 16]))
+        self.carried(s, status, [0; 16], 0)
     }
 
     pub(crate) fn thread_wait_abort(self, t: ThreadId) -> Answer

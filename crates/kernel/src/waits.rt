@@ -2,45 +2,36 @@
 ghost use mathlib.Core.Path.{_≡_};
 ghost use mathlib.Core.List.{List, []};
 ghost use Rattle.lines.specs.Lines.{members};
-ghost use Rattle.calls.specs.Statuses.{success, waiting};
+ghost use Rattle.scheduler.specs.Threads.{inState};
+ghost use Rattle.scheduler.specs.Orders.{threadAt, joined};
+ghost use Rattle.calls.specs.Statuses.{success};
 ghost use Rattle.calls.specs.Held.{noWords};
 ghost use Rattle.kernel.specs.Answers.{answerOf, carried};
-ghost use Rattle.kernel.specs.Waits.{endEach, startWait};
+ghost use Rattle.kernel.specs.Waits.{endEach};
 use super::Answer;
 use super::Kernel;
 use calls::held::Held;
 use calls::status::SUCCESS;
-use calls::status::WAITING;
 use lines::Line;
 use lines::ThreadId;
+use scheduler::Scheduler;
+
+// The scheduler after its running thread began to wait or to sleep.
+pub(crate) fn with_runner_waiting(
+    s: Scheduler,
+    front: bool,
+    state: u8,
+    object: u8,
+    ticks: u32,
+) -> Scheduler
+    ensures { λ r. ⌜ r ≡ joined s front (s .running .0) (inState state object ticks (threadAt s (s .running .0))) ⌝ }
+{
+    let t = s.running;
+    let th = s.thread_at(t);
+    s.joined(front, t, th.in_state(state, object, ticks))
+}
 
 impl Kernel {
-    // The running thread now waits or sleeps, and holds `h` meanwhile.
-    pub(crate) fn started_wait(
-        mut self,
-        front: bool,
-        state: u8,
-        object: u8,
-        ticks: u32,
-        h: Held,
-    ) -> Answer
-        ensures { λ r. ⌜ r ≡ answerOf (carried (startWait self front state object ticks h) waiting noWords []) ⌝ }
-    {
-        let s = self.scheduler;
-        let t = s.running;
-        let th = s.thread_at(t);
-        let i = t.0 as usize;
-        if i < 32 {
-            self.held[i] = h;
-        }
-        self.carried(
-            s.joined(front, t, th.in_state(state, object, ticks)),
-            WAITING,
-            [0; 16],
-            0,
-        )
-    }
-
     // The waits of all in the line end with a status and words, in order, and the call is done.
     pub(crate) fn ended_each(mut self, line: Line, status: u32, words: [u32; 16]) -> Answer
         ensures { λ r. ⌜ r ≡ answerOf (carried (endEach self status words (members line)) success noWords (members line)) ⌝ }

@@ -1,14 +1,19 @@
-use mathlib.Core.Path.{_≡_, sym, ap, _∙_}
-use mathlib.Core.Bool.{true, false}
 use borrow.Author.Needs.{needs}
+use mathlib.Core.Path.{_≡_, sym, ap, _∙_}
+use mathlib.Core.Logic.{⊎-elim}
+
 use lib.Dec.{ltb}
+use lib.ListN.{length}
+use Rattle.scheduler.proofs.Laws.Threads.{length-mapped}
 use Rattle.blocks.specs.declared.pool.Pool.{Pool}
 use Rattle.blocks.specs.Pools.{nextBlock, withoutNext}
+use Rattle.calls.specs.Held.{waiting}
 use Rattle.calls.specs.Refusals.{allocateRefusal}
-use Rattle.kernel.specs.Tables.{poolAt, withScheduler, withPool}
+use Rattle.kernel.specs.Tables.{poolAt, withScheduler, withHeld, withPool}
 use Rattle.kernel.specs.Answers.{answerOf, refused, carried, answered}
+use Rattle.kernel.specs.Waits.{startWait}
 use Rattle.kernel.specs.Pools.{blockAllocate}
-use Rattle.kernel.proofs.Laws.Answers.{is-refused, is-carried}
+use Rattle.kernel.proofs.Laws.Answers.{is-refused, is-carried, held-out}
 use Rattle.kernel.proofs.Kernel.block_allocate.Statement.{statement}
 use Rattle.kernel.proofs.Kernel.block_allocate.Tie as tie
 
@@ -26,7 +31,7 @@ unfolding blockAllocate poolAt
 returns c =
     let a = c .before .before .before .before .before .args in
     let e = c .before .before .allocate .ensures ∙ ap (λ (x : Pool). allocateRefusal x (a .wait) (a .caller)) (c .before .before .before .pool-in .ensures) in
-    c .refused .ensures ∙ ap answerOf (ap (refused (a .self)) e ∙ sym (is-refused (a .self) (allocateRefusal (poolAt (a .self) (a .n .0)) (a .wait) (a .caller)) _ (λ w. c .before .if1 .taken (e ∙ w))))
+    c .refused .ensures ∙ ap answerOf (ap (refused (a .t1)) e ∙ sym (is-refused (a .t1) (allocateRefusal (poolAt (a .t1) (a .n .0)) (a .wait) (a .caller)) _ (λ w. c .before .if1 .taken (e ∙ w))))
 
 has-free-requires : tie.Need-has-free-requires
 has-free-requires c κs = search needs
@@ -46,36 +51,42 @@ without-next-requires c κs = search needs
 pools-with-requires : tie.Need-pools-with-requires
 pools-with-requires c κs = search needs
 
-carried-requires : tie.Need-carried-requires
-carried-requires c κs = search needs
+cast-i : tie.Need-cast-i
+cast-i c = search needs
 
-returns-2 : tie.Need-returns-2
-unfolding blockAllocate answerOf carried answered withScheduler withPool poolAt
-returns-2 c =
-    let a = c .before .before .before .before .before .before .before .before .before .before .before .before .args in
-    let i = c .before .before .before .before .before .before .before .before .before .before .pool-in .ensures in
-    let e = c .before .before .before .before .before .before .before .before .before .allocate .ensures ∙ ap (λ (x : Pool). allocateRefusal x (a .wait) (a .caller)) i in
-    let z : allocateRefusal (poolAt (a .self) (a .n .0)) (a .wait) (a .caller) ≡ 0 = sym e ∙ c .before .before .before .before .before .before .before .before .if1 .left in
-    let t : ltb 0 (poolAt (a .self) (a .n .0) .free) ≡ true = sym (c .before .before .before .before .before .before .before .has-free .ensures ∙ ap (λ (x : Pool). ltb 0 (x .free)) i) ∙ c .before .before .before .before .before .before .if2 .taken in
-    let b = c .before .before .before .before .next .ensures ∙ ap nextBlock i in
-    let w = c .before .before .without-next .ensures ∙ ap withoutNext i in
-    rw (is-carried, t) (c .carried .ensures ∙ rw (c .before .pools-with .ensures, c .before .before .before .two-words .ensures, b, w))
+with-runner-waiting-requires : tie.Need-with-runner-waiting-requires
+with-runner-waiting-requires c κs = search needs
 
 of-requires : tie.Need-of-requires
 of-requires c κs = search needs
 
-started-wait-requires : tie.Need-started-wait-requires
-started-wait-requires c κs = search needs
+mul-h : tie.Need-mul-h
+mul-h c = search needs
 
-returns-3 : tie.Need-returns-3
-unfolding blockAllocate poolAt
-returns-3 c =
+element-set-from-h : tie.Need-element-set-from-h
+element-set-from-h c = search needs
+
+carried-requires : tie.Need-carried-requires
+carried-requires c κs = search needs
+
+returns-2 : tie.Need-returns-2
+unfolding blockAllocate startWait answerOf carried answered withScheduler withHeld withPool poolAt
+returns-2 c =
     let a = c .before .before .before .before .before .before .before .before .args in
     let i = c .before .before .before .before .before .before .pool-in .ensures in
     let e = c .before .before .before .before .before .allocate .ensures ∙ ap (λ (x : Pool). allocateRefusal x (a .wait) (a .caller)) i in
-    let z : allocateRefusal (poolAt (a .self) (a .n .0)) (a .wait) (a .caller) ≡ 0 = sym e ∙ c .before .before .before .before .if1 .left in
-    let t : ltb 0 (poolAt (a .self) (a .n .0) .free) ≡ false = sym (c .before .before .before .has-free .ensures ∙ ap (λ (x : Pool). ltb 0 (x .free)) i) ∙ c .before .before .if2 .left in
-    rw (is-carried, t) (c .started-wait .ensures ∙ rw (c .before .of .ensures))
+    let z : allocateRefusal (poolAt (a .t1) (a .n .0)) (a .wait) (a .caller) ≡ 0 = sym e ∙ c .before .before .before .before .if1 .left in
+    let t : c .before .before .has-free .result ≡ ltb 0 (poolAt (a .t1) (a .n .0) .free) = c .before .before .has-free .ensures ∙ ap (λ (x : Pool). ltb 0 (x .free)) i in
+    let l : length (a .t1 .held) ≡ 32 = length-mapped _ (a .t1 .held) 32 (c .before .before .before .before .before .before .before .before .good .0 .1 .1 .1 .0 .1 .0 .1) in
+    let m : answered (c .before .if2 .self) (c .before .if2 .s) (c .before .if2 .status) (c .before .if2 .words) 0 ≡ answerOf (blockAllocate (a .t1) (a .caller) (a .n .0) (a .wait)) =
+        ⊎-elim
+        (λ w. rw (w .5, w .6, w .7, w .8, is-carried, ← t, w .0 .taken, w .4 .ensures, w .2 .ensures, w .1 .ensures ∙ ap nextBlock i, w .3 .ensures ∙ ap withoutNext i))
+        (λ w. ⊎-elim
+        (λ v. rw (v .6, v .7, v .8, v .9, is-carried, ← t, v .0 .left, v .3 .ensures, v .5 .ensures))
+        (λ v. rw (v .5 ∙ sym (held-out (a .t1) (a .t1 .scheduler .running .0) waiting l (v .4 .left)), v .6, v .7, v .8, is-carried, ← t, v .0 .left, v .3 .ensures))
+        w)
+        (c .before .if2 .came) in
+    c .carried .ensures ∙ m
 
 pub block-allocate-spec : {M : Type 1} → statement M
 block-allocate-spec =
@@ -91,8 +102,10 @@ block-allocate-spec =
     two-words-requires
     without-next-requires
     pools-with-requires
-    carried-requires
-    returns-2
+    cast-i
+    with-runner-waiting-requires
     of-requires
-    started-wait-requires
-    returns-3)
+    mul-h
+    element-set-from-h
+    carried-requires
+    returns-2)

@@ -1,9 +1,14 @@
-use mathlib.Core.Path.{_≡_, sym, ap, _∙_}
 use borrow.Author.Needs.{needs}
+use mathlib.Core.Path.{_≡_, sym, ap, _∙_}
+use mathlib.Core.Logic.{⊎-elim}
+
+use Prim.Native.Nat.{_-_}
 use borrow.Author.Tests.{lt-ltb, le-ltb}
 use Rattle.scheduler.specs.Orders.{firstAt}
 use Rattle.blocks.specs.declared.pool.Pool.{Pool}
 use Rattle.blocks.specs.Pools.{withFree}
+use Rattle.calls.specs.Held.{noWords}
+use Rattle.calls.specs.Statuses.{success}
 use Rattle.calls.specs.Refusals.{releaseRefusal}
 use Rattle.kernel.specs.Tables.{poolAt, withScheduler, withHeld, withPool}
 use Rattle.kernel.specs.Answers.{answerOf, refused, carried, answered}
@@ -53,37 +58,29 @@ element-set-from-h c = search needs
 woken-requires : tie.Need-woken-requires
 woken-requires c κs = search needs
 
-carried-requires : tie.Need-carried-requires
-carried-requires c κs = search needs
-
-returns-2 : tie.Need-returns-2
-unfolding blockRelease endWait answerOf carried answered withHeld withScheduler poolAt
-returns-2 c =
-    let a = c .before .before .before .before .before .before .before .before .before .before .before .before .before .args in
-    let e = c .before .before .before .before .before .before .before .before .before .before .release .ensures ∙ ap (λ (x : Pool). releaseRefusal x (a .block)) (c .before .before .before .before .before .before .before .before .before .before .before .pool-in .ensures) in
-    let z : releaseRefusal (poolAt (a .t1) (a .n .0)) (a .block) ≡ 0 = sym e ∙ c .before .before .before .before .before .before .before .before .before .if1 .left in
-    let f : c .before .before .before .before .before .before .first-at .result .0 ≡ firstAt (a .t1 .scheduler) (poolPlace (a .n .0)) = c .before .before .before .before .before .before .first-at .ensures ∙ ap (firstAt (a .t1 .scheduler)) (c .before .before .before .before .before .before .before .place .ensures) in
-    rw (is-carried, ← f, lt-ltb (c .before .before .before .before .before .before .first-at .result .0) 32 (c .before .before .before .before .if2 .taken)) (c .carried .ensures ∙ rw (c .before .woken .ensures, c .before .before .of .ensures, c .before .before .before .two-words .ensures))
-
 with-free-requires : tie.Need-with-free-requires
 with-free-requires c κs = search needs
 
 pools-with-requires : tie.Need-pools-with-requires
 pools-with-requires c κs = search needs
 
-carried-requires-2 : tie.Need-carried-requires-2
-carried-requires-2 c κs = search needs
+carried-requires : tie.Need-carried-requires
+carried-requires c κs = search needs
 
-returns-3 : tie.Need-returns-3
-unfolding blockRelease answerOf carried answered withScheduler withPool poolAt
-returns-3 c =
-    let a = c .before .before .before .before .before .before .before .before .before .before .before .before .args in
-    let i = c .before .before .before .before .before .before .before .before .before .before .pool-in .ensures in
-    let e = c .before .before .before .before .before .before .before .before .before .release .ensures ∙ ap (λ (x : Pool). releaseRefusal x (a .block)) i in
-    let z : releaseRefusal (poolAt (a .t1) (a .n .0)) (a .block) ≡ 0 = sym e ∙ c .before .before .before .before .before .before .before .before .if1 .left in
-    let f : c .before .before .before .before .before .first-at .result .0 ≡ firstAt (a .t1 .scheduler) (poolPlace (a .n .0)) = c .before .before .before .before .before .first-at .ensures ∙ ap (firstAt (a .t1 .scheduler)) (c .before .before .before .before .before .before .place .ensures) in
-    let w = c .before .before .with-free .ensures ∙ ap (λ (x : Pool). withFree x (a .block)) i in
-    rw (is-carried, ← f, le-ltb (c .before .before .before .before .before .first-at .result .0) 32 (c .before .before .before .if2 .left)) (c .carried2 .ensures ∙ rw (c .before .pools-with .ensures, w))
+returns-2 : tie.Need-returns-2
+unfolding blockRelease endWait answerOf carried answered withHeld withScheduler withPool poolAt
+returns-2 c =
+    let a = c .before .before .before .before .before .before .before .before .before .before .args in
+    let i = c .before .before .before .before .before .before .before .before .pool-in .ensures in
+    let e = c .before .before .before .before .before .before .before .release .ensures ∙ ap (λ (x : Pool). releaseRefusal x (a .block)) i in
+    let z : releaseRefusal (poolAt (a .t1) (a .n .0)) (a .block) ≡ 0 = sym e ∙ c .before .before .before .before .before .before .if1 .left in
+    let f : c .before .before .before .first-at .result .0 ≡ firstAt (a .t1 .scheduler) (poolPlace (a .n .0)) = c .before .before .before .first-at .ensures ∙ ap (firstAt (a .t1 .scheduler)) (c .before .before .before .before .place .ensures) in
+    let m : answered (c .before .if2 .self) (c .before .if2 .s) success noWords (c .before .if2 .ended) ≡ answerOf (blockRelease (a .t1) (a .n .0) (a .block)) =
+        ⊎-elim
+        (λ w. rw (w .4, w .5, w .6, is-carried, ← f, lt-ltb (c .before .before .before .first-at .result .0) 32 (w .0 .taken), w .3 .ensures, w .2 .ensures, w .1 .ensures))
+        (λ w. rw (w .3, w .4, w .5, is-carried, ← f, le-ltb (c .before .before .before .first-at .result .0) 32 (w .0 .left), w .2 .ensures, w .1 .ensures ∙ ap (λ (x : Pool). withFree x (a .block)) i))
+        (c .before .if2 .came) in
+    c .carried .ensures ∙ m
 
 pub block-release-spec : {M : Type 1} → statement M
 block-release-spec =
@@ -101,9 +98,7 @@ block-release-spec =
     mul-h
     element-set-from-h
     woken-requires
-    carried-requires
-    returns-2
     with-free-requires
     pools-with-requires
-    carried-requires-2
-    returns-3)
+    carried-requires
+    returns-2)

@@ -1,19 +1,21 @@
-use mathlib.Core.Path.{_≡_, sym, ap, _∙_}
-use mathlib.Core.Bool.{true, false}
-use Prim.Native.Nat.{_-_}
-use native.Mathlib.Omega.{arith}
 use borrow.Author.Needs.{needs}
 use mathlib.Core.Path.{_≡_, sym, ap, _∙_}
+use mathlib.Core.Logic.{⊎-elim}
+
+use native.Mathlib.Omega.{arith}
+use lib.Dec.{leb}
+use lib.ListN.{length}
+use borrow.Author.Tests.{leb-true}
+use Rattle.scheduler.proofs.Laws.Threads.{length-mapped}
 use Rattle.objects.specs.declared.group.Group.{Group}
 use Rattle.objects.specs.Groups.{metb}
+use Rattle.calls.specs.Held.{requesting}
 use Rattle.calls.specs.Refusals.{getRefusal}
-use Rattle.kernel.specs.Tables.{groupAt, withScheduler, withGroup}
+use Rattle.kernel.specs.Tables.{groupAt, withScheduler, withHeld, withGroup}
 use Rattle.kernel.specs.Answers.{answerOf, refused, carried, answered}
+use Rattle.kernel.specs.Waits.{startWait}
 use Rattle.kernel.specs.Groups.{groupGet}
-use Rattle.kernel.proofs.Laws.Answers.{is-carried, first-none, second-none, unless-none}
-use Rattle.kernel.proofs.Laws.Answers.{refused-for}
-use borrow.Author.Tests.{leb-true}
-use lib.Dec.{leb}
+use Rattle.kernel.proofs.Laws.Answers.{is-carried, first-none, second-none, unless-none, refused-for, held-out}
 use Rattle.kernel.proofs.Kernel.event_flags_get.Statement.{statement}
 use Rattle.kernel.proofs.Kernel.event_flags_get.Tie as tie
 
@@ -30,15 +32,18 @@ returns : tie.Need-returns
 unfolding groupGet groupAt
 returns c =
     let a = c .before .before .before .before .before .args in
-    let i : c .before .before .before .group-in .result ≡ groupAt (a .self) (a .n .0) = c .before .before .before .group-in .ensures in
+    let i : c .before .before .before .group-in .result ≡ groupAt (a .t1) (a .n .0) = c .before .before .before .group-in .ensures in
     let e = c .before .before .flags-get .ensures ∙ ap (λ (g : Group). getRefusal g (a .request) (a .option) (a .wait) (a .caller)) i in
-    c .refused .ensures ∙ ap answerOf (refused-for (a .self) (getRefusal (groupAt (a .self) (a .n .0)) (a .request) (a .option) (a .wait) (a .caller)) (c .before .before .flags-get .result) _ (sym e) (c .before .if1 .taken))
+    c .refused .ensures ∙ ap answerOf (refused-for (a .t1) (getRefusal (groupAt (a .t1) (a .n .0)) (a .request) (a .option) (a .wait) (a .caller)) (c .before .before .flags-get .result) _ (sym e) (c .before .if1 .taken))
 
 option-of-requires : tie.Need-option-of-requires
 option-of-requires c κs = search needs
 
 is-met-requires : tie.Need-is-met-requires
 is-met-requires c κs = search needs
+
+two-words-requires : tie.Need-two-words-requires
+two-words-requires c κs = search needs
 
 cleared-by-requires : tie.Need-cleared-by-requires
 cleared-by-requires c κs = search needs
@@ -52,43 +57,44 @@ of-requires c κs = search needs
 groups-with-requires : tie.Need-groups-with-requires
 groups-with-requires c κs = search needs
 
-two-words-requires : tie.Need-two-words-requires
-two-words-requires c κs = search needs
+cast-i : tie.Need-cast-i
+cast-i c = search needs
+
+with-runner-waiting-requires : tie.Need-with-runner-waiting-requires
+with-runner-waiting-requires c κs = search needs
+
+requester-requires : tie.Need-requester-requires
+requester-requires c κs = search needs
+
+mul-h : tie.Need-mul-h
+mul-h c = search needs
+
+element-set-from-h : tie.Need-element-set-from-h
+element-set-from-h c = search needs
 
 carried-requires : tie.Need-carried-requires
 carried-requires c κs = search needs
 
 returns-2 : tie.Need-returns-2
-unfolding groupGet groupAt getRefusal answerOf carried answered withScheduler withGroup
+unfolding groupGet startWait groupAt getRefusal answerOf carried answered withScheduler withHeld withGroup
 returns-2 c =
-    let a = c .before .before .before .before .before .before .before .before .before .before .before .before .before .before .args in
-    let i : c .before .before .before .before .before .before .before .before .before .before .before .before .group-in .result ≡ groupAt (a .self) (a .n .0) = c .before .before .before .before .before .before .before .before .before .before .before .before .group-in .ensures in
-    let e = c .before .before .before .before .before .before .before .before .before .before .before .flags-get .ensures ∙ ap (λ (g : Group). getRefusal g (a .request) (a .option) (a .wait) (a .caller)) i in
-    let z : getRefusal (groupAt (a .self) (a .n .0)) (a .request) (a .option) (a .wait) (a .caller) ≡ 0 = sym e ∙ c .before .before .before .before .before .before .before .before .before .before .if1 .left in
-    let known = leb-true (a .option) 3 (unless-none (leb (a .option) 3) 8 (omega arith) (first-none _ _ (second-none _ _ z))) in
-    let o : c .before .before .before .before .before .before .before .before .before .option-of .result ≡ a .option = let h = c .before .before .before .before .before .before .before .before .before .option-of .ensures in omega (arith, h, known) in
-    let m = c .before .before .before .before .before .before .before .before .is-met .ensures ∙ (λ j. metb (i j .flags) (a .request) (o j)) in
-    let t : metb (groupAt (a .self) (a .n .0) .flags) (a .request) (a .option) ≡ true = sym m ∙ c .before .before .before .before .before .before .before .if2 .taken in
-    rw (is-carried, t) (c .carried .ensures ∙ rw (c .before .before .groups-with .ensures, c .before .before .before .of .ensures, c .before .before .before .before .less .ensures, c .before .before .before .before .before .cleared-by .ensures, c .before .two-words .ensures, o, i))
-
-requester-requires : tie.Need-requester-requires
-requester-requires c κs = search needs
-
-started-wait-requires : tie.Need-started-wait-requires
-started-wait-requires c κs = search needs
-
-returns-3 : tie.Need-returns-3
-unfolding groupGet groupAt getRefusal
-returns-3 c =
     let a = c .before .before .before .before .before .before .before .before .before .args in
-    let i : c .before .before .before .before .before .before .before .group-in .result ≡ groupAt (a .self) (a .n .0) = c .before .before .before .before .before .before .before .group-in .ensures in
+    let i : c .before .before .before .before .before .before .before .group-in .result ≡ groupAt (a .t1) (a .n .0) = c .before .before .before .before .before .before .before .group-in .ensures in
     let e = c .before .before .before .before .before .before .flags-get .ensures ∙ ap (λ (g : Group). getRefusal g (a .request) (a .option) (a .wait) (a .caller)) i in
-    let z : getRefusal (groupAt (a .self) (a .n .0)) (a .request) (a .option) (a .wait) (a .caller) ≡ 0 = sym e ∙ c .before .before .before .before .before .if1 .left in
+    let z : getRefusal (groupAt (a .t1) (a .n .0)) (a .request) (a .option) (a .wait) (a .caller) ≡ 0 = sym e ∙ c .before .before .before .before .before .if1 .left in
     let known = leb-true (a .option) 3 (unless-none (leb (a .option) 3) 8 (omega arith) (first-none _ _ (second-none _ _ z))) in
     let o : c .before .before .before .before .option-of .result ≡ a .option = let h = c .before .before .before .before .option-of .ensures in omega (arith, h, known) in
-    let m = c .before .before .before .is-met .ensures ∙ (λ j. metb (i j .flags) (a .request) (o j)) in
-    let t : metb (groupAt (a .self) (a .n .0) .flags) (a .request) (a .option) ≡ false = sym m ∙ c .before .before .if2 .left in
-    rw (is-carried, t) (c .started-wait .ensures ∙ rw (c .before .requester .ensures, o))
+    let t : c .before .before .is-met .result ≡ metb (groupAt (a .t1) (a .n .0) .flags) (a .request) (a .option) = c .before .before .is-met .ensures ∙ (λ j. metb (i j .flags) (a .request) (o j)) in
+    let l : length (a .t1 .held) ≡ 32 = length-mapped _ (a .t1 .held) 32 (c .before .before .before .before .before .before .before .before .before .good .0 .1 .1 .1 .0 .1 .0 .1) in
+    let m : answered (c .before .if2 .self) (c .before .if2 .s) (c .before .if2 .status) (c .before .if2 .words) 0 ≡ answerOf (groupGet (a .t1) (a .caller) (a .n .0) (a .request) (a .option) (a .wait)) =
+        ⊎-elim
+        (λ w. rw (w .6, w .7, w .8, w .9, is-carried, ← t, w .0 .taken, w .5 .ensures, w .4 .ensures, w .3 .ensures, w .2 .ensures, w .1 .ensures, o, i))
+        (λ w. ⊎-elim
+        (λ v. rw (v .6, v .7, v .8, v .9, is-carried, ← t, v .0 .left, v .3 .ensures, v .5 .ensures, o))
+        (λ v. rw (v .5 ∙ sym (held-out (a .t1) (a .t1 .scheduler .running .0) (requesting (a .request) (a .option)) l (v .4 .left)), v .6, v .7, v .8, is-carried, ← t, v .0 .left, v .3 .ensures))
+        w)
+        (c .before .if2 .came) in
+    c .carried .ensures ∙ m
 
 pub event-flags-get-spec : {M : Type 1} → statement M
 event-flags-get-spec =
@@ -100,13 +106,15 @@ event-flags-get-spec =
     returns
     option-of-requires
     is-met-requires
+    two-words-requires
     cleared-by-requires
     less-requires
     of-requires
     groups-with-requires
-    two-words-requires
-    carried-requires
-    returns-2
+    cast-i
+    with-runner-waiting-requires
     requester-requires
-    started-wait-requires
-    returns-3)
+    mul-h
+    element-set-from-h
+    carried-requires
+    returns-2)

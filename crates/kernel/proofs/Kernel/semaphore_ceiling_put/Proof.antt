@@ -1,12 +1,11 @@
-use mathlib.Core.Path.{_≡_, sym, ap, _∙_}
-use Prim.Native.Nat.{_-_}
 use borrow.Author.Needs.{needs}
+use mathlib.Core.Path.{_≡_, sym, ap, _∙_}
 use Rattle.objects.specs.declared.semaphore.Semaphore.{Semaphore}
-use Rattle.calls.specs.Refusals.{ceilingRefusal}
-use Rattle.kernel.specs.Tables.{semaphoreAt, withScheduler, withHeld, withSemaphore, withClock, given}
-use Rattle.kernel.specs.Answers.{answerOf, refused, carried, answered}
-use Rattle.kernel.specs.Semaphores.{semaphoreCeilingPut}
-use Rattle.kernel.proofs.Laws.Answers.{is-refused, is-carried}
+use Rattle.calls.specs.Refusals.{semaphoreRefusal, ceilingRefusal}
+use Rattle.kernel.specs.Tables.{semaphoreAt}
+use Rattle.kernel.specs.Answers.{answerOf, refused}
+use Rattle.kernel.specs.Semaphores.{putOn, semaphorePut, semaphoreCeilingPut}
+use Rattle.kernel.proofs.Laws.Answers.{is-refused, is-carried, first-none}
 use Rattle.kernel.proofs.Kernel.semaphore_ceiling_put.Statement.{statement}
 use Rattle.kernel.proofs.Kernel.semaphore_ceiling_put.Tie as tie
 
@@ -26,16 +25,17 @@ returns c =
     let e = c .before .before .ceiling-put .ensures ∙ ap (λ (x : Semaphore). ceilingRefusal x (a .ceiling)) (c .before .before .before .semaphore-in .ensures) in
     c .refused .ensures ∙ ap answerOf (ap (refused (a .self)) e ∙ sym (is-refused (a .self) (ceilingRefusal (semaphoreAt (a .self) (a .n .0)) (a .ceiling)) _ (λ w. c .before .if1 .taken (e ∙ w))))
 
-put-on-requires : tie.Need-put-on-requires
-put-on-requires c κs = search needs
+semaphore-put-requires : tie.Need-semaphore-put-requires
+semaphore-put-requires c κs = search needs
 
 returns-2 : tie.Need-returns-2
-unfolding semaphoreCeilingPut answerOf carried answered given withHeld withScheduler withSemaphore withClock semaphoreAt
+unfolding semaphorePut semaphoreCeilingPut semaphoreAt semaphoreRefusal ceilingRefusal
 returns-2 c =
     let a = c .before .before .before .before .before .args in
     let e = c .before .before .ceiling-put .ensures ∙ ap (λ (x : Semaphore). ceilingRefusal x (a .ceiling)) (c .before .before .before .semaphore-in .ensures) in
     let z : ceilingRefusal (semaphoreAt (a .self) (a .n .0)) (a .ceiling) ≡ 0 = sym e ∙ c .before .if1 .left in
-    rw is-carried (c .put-on .ensures)
+    let y : semaphoreRefusal (semaphoreAt (a .self) (a .n .0)) ≡ 0 = first-none _ _ z in
+    c .semaphore-put .ensures ∙ ap answerOf (is-carried (a .self) _ (putOn (a .self) (a .n .0)) y ∙ sym (is-carried (a .self) _ (putOn (a .self) (a .n .0)) z))
 
 pub semaphore-ceiling-put-spec : {M : Type 1} → statement M
 semaphore-ceiling-put-spec =
@@ -45,5 +45,5 @@ semaphore-ceiling-put-spec =
     ceiling-put-requires
     refused-requires
     returns
-    put-on-requires
+    semaphore-put-requires
     returns-2)

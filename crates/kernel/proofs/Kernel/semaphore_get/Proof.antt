@@ -1,14 +1,19 @@
-use mathlib.Core.Path.{_≡_, sym, ap, _∙_}
-use Prim.Native.Nat.{_-_}
 use borrow.Author.Needs.{needs}
-use borrow.Author.Tests.{lt-ltb, le-ltb}
 use mathlib.Core.Path.{_≡_, sym, ap, _∙_}
+use mathlib.Core.Logic.{⊎-elim}
+
+use Prim.Native.Nat.{_-_}
+use borrow.Author.Tests.{lt-ltb, le-ltb}
+use lib.ListN.{length}
+use Rattle.scheduler.proofs.Laws.Threads.{length-mapped}
 use Rattle.objects.specs.declared.semaphore.Semaphore.{Semaphore}
+use Rattle.calls.specs.Held.{noWords, waiting}
 use Rattle.calls.specs.Refusals.{semaphoreGetRefusal}
-use Rattle.kernel.specs.Tables.{semaphoreAt, withScheduler, withSemaphore}
+use Rattle.kernel.specs.Tables.{semaphoreAt, withScheduler, withHeld, withSemaphore}
 use Rattle.kernel.specs.Answers.{answerOf, refused, carried, answered}
+use Rattle.kernel.specs.Waits.{startWait}
 use Rattle.kernel.specs.Semaphores.{counting, semaphoreGet}
-use Rattle.kernel.proofs.Laws.Answers.{is-refused, is-carried}
+use Rattle.kernel.proofs.Laws.Answers.{is-refused, is-carried, held-out}
 use Rattle.kernel.proofs.Kernel.semaphore_get.Statement.{statement}
 use Rattle.kernel.proofs.Kernel.semaphore_get.Tie as tie
 
@@ -26,7 +31,7 @@ unfolding semaphoreGet semaphoreAt
 returns c =
     let a = c .before .before .before .before .before .args in
     let e = c .before .before .semaphore-get .ensures ∙ ap (λ (x : Semaphore). semaphoreGetRefusal x (a .wait) (a .caller)) (c .before .before .before .semaphore-in .ensures) in
-    c .refused .ensures ∙ ap answerOf (ap (refused (a .self)) e ∙ sym (is-refused (a .self) (semaphoreGetRefusal (semaphoreAt (a .self) (a .n .0)) (a .wait) (a .caller)) _ (λ w. c .before .if1 .taken (e ∙ w))))
+    c .refused .ensures ∙ ap answerOf (ap (refused (a .t1)) e ∙ sym (is-refused (a .t1) (semaphoreGetRefusal (semaphoreAt (a .t1) (a .n .0)) (a .wait) (a .caller)) _ (λ w. c .before .if1 .taken (e ∙ w))))
 
 sub-counting : tie.Need-sub-counting
 sub-counting c = search needs
@@ -37,30 +42,41 @@ counting-requires c κs = search needs
 semaphores-with-requires : tie.Need-semaphores-with-requires
 semaphores-with-requires c κs = search needs
 
-carried-requires : tie.Need-carried-requires
-carried-requires c κs = search needs
+cast-i : tie.Need-cast-i
+cast-i c = search needs
 
-returns-2 : tie.Need-returns-2
-unfolding semaphoreGet answerOf carried answered withScheduler withSemaphore semaphoreAt
-returns-2 c =
-    let a = c .before .before .before .before .before .before .before .before .before .before .before .args in
-    let e = c .before .before .before .before .before .before .before .before .semaphore-get .ensures ∙ ap (λ (x : Semaphore). semaphoreGetRefusal x (a .wait) (a .caller)) (c .before .before .before .before .before .before .before .before .before .semaphore-in .ensures) in
-    let z : semaphoreGetRefusal (semaphoreAt (a .self) (a .n .0)) (a .wait) (a .caller) ≡ 0 = sym e ∙ c .before .before .before .before .before .before .before .if1 .left in
-    rw (is-carried, ← c .before .before .before .before .before .before .before .before .before .semaphore-in .ensures, lt-ltb 0 (c .before .before .before .before .before .before .before .before .before .semaphore-in .result .count) (c .before .before .before .before .if2 .taken)) (c .carried .ensures ∙ rw (c .before .semaphores-with .ensures, c .before .before .counting .ensures))
+with-runner-waiting-requires : tie.Need-with-runner-waiting-requires
+with-runner-waiting-requires c κs = search needs
 
 of-requires : tie.Need-of-requires
 of-requires c κs = search needs
 
-started-wait-requires : tie.Need-started-wait-requires
-started-wait-requires c κs = search needs
+mul-h : tie.Need-mul-h
+mul-h c = search needs
 
-returns-3 : tie.Need-returns-3
-unfolding semaphoreGet semaphoreAt
-returns-3 c =
-    let a = c .before .before .before .before .before .before .before .before .before .args in
-    let e = c .before .before .before .before .before .before .semaphore-get .ensures ∙ ap (λ (x : Semaphore). semaphoreGetRefusal x (a .wait) (a .caller)) (c .before .before .before .before .before .before .before .semaphore-in .ensures) in
-    let z : semaphoreGetRefusal (semaphoreAt (a .self) (a .n .0)) (a .wait) (a .caller) ≡ 0 = sym e ∙ c .before .before .before .before .before .if1 .left in
-    rw (is-carried, ← c .before .before .before .before .before .before .before .semaphore-in .ensures, le-ltb 0 (c .before .before .before .before .before .before .before .semaphore-in .result .count) (c .before .before .if2 .left)) (c .started-wait .ensures ∙ rw (c .before .of .ensures))
+element-set-from-h : tie.Need-element-set-from-h
+element-set-from-h c = search needs
+
+carried-requires : tie.Need-carried-requires
+carried-requires c κs = search needs
+
+returns-2 : tie.Need-returns-2
+unfolding semaphoreGet startWait answerOf carried answered withScheduler withHeld withSemaphore semaphoreAt
+returns-2 c =
+    let a = c .before .before .before .before .before .before .before .before .args in
+    let x = c .before .before .before .before .before .before .semaphore-in .result in
+    let e = c .before .before .before .before .before .semaphore-get .ensures ∙ ap (λ (y : Semaphore). semaphoreGetRefusal y (a .wait) (a .caller)) (c .before .before .before .before .before .before .semaphore-in .ensures) in
+    let z : semaphoreGetRefusal (semaphoreAt (a .t1) (a .n .0)) (a .wait) (a .caller) ≡ 0 = sym e ∙ c .before .before .before .before .if1 .left in
+    let l : length (a .t1 .held) ≡ 32 = length-mapped _ (a .t1 .held) 32 (c .before .before .before .before .before .before .before .before .good .0 .1 .1 .1 .0 .1 .0 .1) in
+    let m : answered (c .before .if2 .self) (c .before .if2 .s) (c .before .if2 .status) noWords 0 ≡ answerOf (semaphoreGet (a .t1) (a .caller) (a .n .0) (a .wait)) =
+        ⊎-elim
+        (λ w. rw (w .4, w .5, w .6, is-carried, ← c .before .before .before .before .before .before .semaphore-in .ensures, lt-ltb 0 (x .count) (w .0 .taken), w .3 .ensures, w .2 .ensures))
+        (λ w. ⊎-elim
+        (λ v. rw (v .6, v .7, v .8, is-carried, ← c .before .before .before .before .before .before .semaphore-in .ensures, le-ltb 0 (x .count) (v .0 .left), v .3 .ensures, v .5 .ensures))
+        (λ v. rw (v .5 ∙ sym (held-out (a .t1) (a .t1 .scheduler .running .0) waiting l (v .4 .left)), v .6, v .7, is-carried, ← c .before .before .before .before .before .before .semaphore-in .ensures, le-ltb 0 (x .count) (v .0 .left), v .3 .ensures))
+        w)
+        (c .before .if2 .came) in
+    c .carried .ensures ∙ m
 
 pub semaphore-get-spec : {M : Type 1} → statement M
 semaphore-get-spec =
@@ -73,8 +89,10 @@ semaphore-get-spec =
     sub-counting
     counting-requires
     semaphores-with-requires
-    carried-requires
-    returns-2
+    cast-i
+    with-runner-waiting-requires
     of-requires
-    started-wait-requires
-    returns-3)
+    mul-h
+    element-set-from-h
+    carried-requires
+    returns-2)

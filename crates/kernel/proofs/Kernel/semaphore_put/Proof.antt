@@ -1,11 +1,17 @@
-use mathlib.Core.Path.{_≡_, sym, ap, _∙_}
-use Prim.Native.Nat.{_-_}
 use borrow.Author.Needs.{needs}
-use Rattle.objects.specs.declared.semaphore.Semaphore.{Semaphore}
+use mathlib.Core.Path.{_≡_, sym, ap, _∙_}
+use mathlib.Core.Logic.{⊎-elim}
+
+use Prim.Native.Nat.{_-_}
+use borrow.Author.Tests.{lt-ltb, le-ltb}
+use Rattle.scheduler.specs.Orders.{firstAt, woken}
+use Rattle.calls.specs.Held.{noWords}
+use Rattle.calls.specs.Statuses.{success}
 use Rattle.calls.specs.Refusals.{semaphoreRefusal}
-use Rattle.kernel.specs.Tables.{semaphoreAt, withScheduler, withHeld, withSemaphore, withClock, given}
+use Rattle.kernel.specs.Tables.{semaphoreAt, withScheduler, withHeld, withSemaphore}
 use Rattle.kernel.specs.Answers.{answerOf, refused, carried, answered}
-use Rattle.kernel.specs.Semaphores.{semaphorePut}
+use Rattle.kernel.specs.Waits.{endWait, oneMore}
+use Rattle.kernel.specs.Semaphores.{semaphorePlace, counting, putOn, semaphorePut}
 use Rattle.kernel.proofs.Laws.Answers.{is-refused, is-carried}
 use Rattle.kernel.proofs.Kernel.semaphore_put.Statement.{statement}
 use Rattle.kernel.proofs.Kernel.semaphore_put.Tie as tie
@@ -23,19 +29,55 @@ returns : tie.Need-returns
 unfolding semaphorePut semaphoreAt
 returns c =
     let a = c .before .before .before .before .before .args in
-    let e = c .before .before .semaphore .ensures ∙ ap (λ (x : Semaphore). semaphoreRefusal x) (c .before .before .before .semaphore-in .ensures) in
-    c .refused .ensures ∙ ap answerOf (ap (refused (a .self)) e ∙ sym (is-refused (a .self) (semaphoreRefusal (semaphoreAt (a .self) (a .n .0))) _ (λ w. c .before .if1 .taken (e ∙ w))))
+    let e = c .before .before .semaphore .ensures ∙ ap semaphoreRefusal (c .before .before .before .semaphore-in .ensures) in
+    c .refused .ensures ∙ ap answerOf (ap (refused (a .t1)) e ∙ sym (is-refused (a .t1) (semaphoreRefusal (semaphoreAt (a .t1) (a .n .0))) _ (λ w. c .before .if1 .taken (e ∙ w))))
 
-put-on-requires : tie.Need-put-on-requires
-put-on-requires c κs = search needs
+place-requires : tie.Need-place-requires
+place-requires c κs = search needs
+
+first-at-requires : tie.Need-first-at-requires
+first-at-requires c κs = search needs
+
+cast-i : tie.Need-cast-i
+cast-i c = search needs
+
+of-requires : tie.Need-of-requires
+of-requires c κs = search needs
+
+mul-h : tie.Need-mul-h
+mul-h c = search needs
+
+element-set-from-h : tie.Need-element-set-from-h
+element-set-from-h c = search needs
+
+woken-requires : tie.Need-woken-requires
+woken-requires c κs = search needs
+
+wrapping-add-u32-requires : tie.Need-wrapping-add-u32-requires
+wrapping-add-u32-requires c κs = search needs
+
+counting-requires : tie.Need-counting-requires
+counting-requires c κs = search needs
+
+semaphores-with-requires : tie.Need-semaphores-with-requires
+semaphores-with-requires c κs = search needs
+
+carried-requires : tie.Need-carried-requires
+carried-requires c κs = search needs
 
 returns-2 : tie.Need-returns-2
-unfolding semaphorePut answerOf carried answered given withHeld withScheduler withSemaphore withClock semaphoreAt
+unfolding semaphorePut putOn endWait oneMore answerOf carried answered withScheduler withHeld withSemaphore semaphoreAt
 returns-2 c =
-    let a = c .before .before .before .before .before .args in
-    let e = c .before .before .semaphore .ensures ∙ ap (λ (x : Semaphore). semaphoreRefusal x) (c .before .before .before .semaphore-in .ensures) in
-    let z : semaphoreRefusal (semaphoreAt (a .self) (a .n .0)) ≡ 0 = sym e ∙ c .before .if1 .left in
-    rw is-carried (c .put-on .ensures)
+    let a = c .before .before .before .before .before .before .before .before .before .before .args in
+    let e = c .before .before .before .before .before .before .before .semaphore .ensures ∙ ap semaphoreRefusal (c .before .before .before .before .before .before .before .before .semaphore-in .ensures) in
+    let z : semaphoreRefusal (semaphoreAt (a .t1) (a .n .0)) ≡ 0 = sym e ∙ c .before .before .before .before .before .before .if1 .left in
+    let f : c .before .before .before .first-at .result .0 ≡ firstAt (a .t1 .scheduler) (semaphorePlace (a .n .0)) = c .before .before .before .first-at .ensures ∙ ap (firstAt (a .t1 .scheduler)) (c .before .before .before .before .place .ensures) in
+    let m : answered (c .before .if2 .self) (c .before .if2 .s) success noWords (c .before .if2 .ended) ≡ answerOf (semaphorePut (a .t1) (a .n .0)) =
+        ⊎-elim
+        (λ w. rw (w .3, w .4, w .5, is-carried, ← f, lt-ltb (c .before .before .before .first-at .result .0) 32 (w .0 .taken), w .2 .ensures, w .1 .ensures))
+        (λ w. rw (w .4, w .5, w .6, is-carried, ← f, le-ltb (c .before .before .before .first-at .result .0) 32 (w .0 .left), w .3 .ensures, w .2 .ensures, w .1 .ensures, c .before .before .before .before .before .before .before .before .semaphore-in .ensures))
+        (c .before .if2 .came) in
+    c .carried .ensures ∙ m
 
 pub semaphore-put-spec : {M : Type 1} → statement M
 semaphore-put-spec =
@@ -45,5 +87,15 @@ semaphore-put-spec =
     semaphore-requires
     refused-requires
     returns
-    put-on-requires
+    place-requires
+    first-at-requires
+    cast-i
+    of-requires
+    mul-h
+    element-set-from-h
+    woken-requires
+    wrapping-add-u32-requires
+    counting-requires
+    semaphores-with-requires
+    carried-requires
     returns-2)

@@ -1,12 +1,17 @@
-use mathlib.Core.Path.{_≡_, sym, ap, _∙_}
-use Prim.Native.Nat.{_-_}
 use borrow.Author.Needs.{needs}
+use mathlib.Core.Path.{_≡_, sym, ap, _∙_}
+use mathlib.Core.Logic.{⊎-elim}
+
 use borrow.Author.Tests.{eq-eqb, ne-eqb}
+use lib.ListN.{length}
+use Rattle.scheduler.proofs.Laws.Threads.{length-mapped}
+use Rattle.calls.specs.Held.{noWords, waiting}
 use Rattle.calls.specs.Refusals.{threadOnlyRefusal}
-use Rattle.kernel.specs.Tables.{withScheduler, withHeld, withSemaphore, withClock, given}
+use Rattle.kernel.specs.Tables.{withScheduler, withHeld}
 use Rattle.kernel.specs.Answers.{answerOf, refused, carried, answered}
+use Rattle.kernel.specs.Waits.{startWait}
 use Rattle.kernel.specs.Threads.{threadSleep}
-use Rattle.kernel.proofs.Laws.Answers.{is-refused, is-carried}
+use Rattle.kernel.proofs.Laws.Answers.{is-refused, is-carried, held-out}
 use Rattle.kernel.proofs.Kernel.thread_sleep.Statement.{statement}
 use Rattle.kernel.proofs.Kernel.thread_sleep.Tie as tie
 
@@ -21,32 +26,42 @@ unfolding threadSleep
 returns c =
     let a = c .before .before .before .args in
     let e = c .before .before .thread-only .ensures in
-    c .refused .ensures ∙ ap answerOf (ap (refused (a .self)) e ∙ sym (is-refused (a .self) (threadOnlyRefusal (a .caller)) _ (λ w. c .before .if1 .taken (e ∙ w))))
+    c .refused .ensures ∙ ap answerOf (ap (refused (a .t1)) e ∙ sym (is-refused (a .t1) (threadOnlyRefusal (a .caller)) _ (λ w. c .before .if1 .taken (e ∙ w))))
+
+cast-i : tie.Need-cast-i
+cast-i c = search needs
+
+with-runner-waiting-requires : tie.Need-with-runner-waiting-requires
+with-runner-waiting-requires c κs = search needs
+
+of-requires : tie.Need-of-requires
+of-requires c κs = search needs
+
+mul-h : tie.Need-mul-h
+mul-h c = search needs
+
+element-set-from-h : tie.Need-element-set-from-h
+element-set-from-h c = search needs
 
 carried-requires : tie.Need-carried-requires
 carried-requires c κs = search needs
 
 returns-2 : tie.Need-returns-2
-unfolding threadSleep answerOf carried answered given withHeld withScheduler withSemaphore withClock
+unfolding threadSleep startWait answerOf carried answered withScheduler withHeld
 returns-2 c =
     let a = c .before .before .before .before .before .args in
     let e = c .before .before .before .before .thread-only .ensures in
     let z : threadOnlyRefusal (a .caller) ≡ 0 = sym e ∙ c .before .before .before .if1 .left in
-    rw (is-carried, eq-eqb (a .ticks) 0 (c .before .if2 .taken)) (c .carried .ensures)
-
-of-requires : tie.Need-of-requires
-of-requires c κs = search needs
-
-started-wait-requires : tie.Need-started-wait-requires
-started-wait-requires c κs = search needs
-
-returns-3 : tie.Need-returns-3
-unfolding threadSleep
-returns-3 c =
-    let a = c .before .before .before .before .before .before .args in
-    let e = c .before .before .before .before .before .thread-only .ensures in
-    let z : threadOnlyRefusal (a .caller) ≡ 0 = sym e ∙ c .before .before .before .before .if1 .left in
-    rw (is-carried, ne-eqb (a .ticks) 0 (c .before .before .if2 .left)) (c .started-wait .ensures ∙ rw (c .before .of .ensures))
+    let l : length (a .t1 .held) ≡ 32 = length-mapped _ (a .t1 .held) 32 (c .before .before .before .before .before .good .0 .1 .1 .1 .0 .1 .0 .1) in
+    let m : answered (c .before .if2 .self) (c .before .if2 .s) (c .before .if2 .status) noWords 0 ≡ answerOf (threadSleep (a .t1) (a .caller) (a .ticks)) =
+        ⊎-elim
+        (λ w. rw (w .6, w .7, w .8, is-carried, ne-eqb (a .ticks) 0 (w .0 .taken), w .3 .ensures, w .5 .ensures))
+        (λ w. ⊎-elim
+        (λ v. rw (v .5 ∙ sym (held-out (a .t1) (a .t1 .scheduler .running .0) waiting l (v .4 .left)), v .6, v .7, is-carried, ne-eqb (a .ticks) 0 (v .0 .taken), v .3 .ensures))
+        (λ v. rw (v .1, v .2, v .3, is-carried, eq-eqb (a .ticks) 0 (v .0 .left)))
+        w)
+        (c .before .if2 .came) in
+    c .carried .ensures ∙ m
 
 pub thread-sleep-spec : {M : Type 1} → statement M
 thread-sleep-spec =
@@ -55,8 +70,10 @@ thread-sleep-spec =
     thread-only-requires
     refused-requires
     returns
-    carried-requires
-    returns-2
+    cast-i
+    with-runner-waiting-requires
     of-requires
-    started-wait-requires
-    returns-3)
+    mul-h
+    element-set-from-h
+    carried-requires
+    returns-2)
