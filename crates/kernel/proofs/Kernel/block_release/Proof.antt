@@ -1,7 +1,6 @@
 use borrow.Author.Needs.{needs}
 use mathlib.Core.Path.{_≡_, sym, ap, _∙_}
 use mathlib.Core.Logic.{⊎-elim}
-
 use Prim.Native.Nat.{_-_}
 use borrow.Author.Tests.{lt-ltb, le-ltb}
 use Rattle.scheduler.specs.Orders.{firstAt}
@@ -76,10 +75,10 @@ returns-2 c =
     let z : releaseRefusal (poolAt (a .t1) (a .n .0)) (a .block) ≡ 0 = sym e ∙ c .before .before .before .before .before .before .if1 .left in
     let f : c .before .before .before .first-at .result .0 ≡ firstAt (a .t1 .scheduler) (poolPlace (a .n .0)) = c .before .before .before .first-at .ensures ∙ ap (firstAt (a .t1 .scheduler)) (c .before .before .before .before .place .ensures) in
     let m : answered (c .before .if2 .self) (c .before .if2 .s) success noWords (c .before .if2 .ended) ≡ answerOf (blockRelease (a .t1) (a .n .0) (a .block)) =
-        ⊎-elim
-        (λ w. rw (w .4, w .5, w .6, is-carried, ← f, lt-ltb (c .before .before .before .first-at .result .0) 32 (w .0 .taken), w .3 .ensures, w .2 .ensures, w .1 .ensures))
-        (λ w. rw (w .3, w .4, w .5, is-carried, ← f, le-ltb (c .before .before .before .first-at .result .0) 32 (w .0 .left), w .2 .ensures, w .1 .ensures ∙ ap (λ (x : Pool). withFree x (a .block)) i))
-        (c .before .if2 .came) in
+    ⊎-elim
+    (λ w. rw (w .4, w .5, w .6, is-carried, ← f, lt-ltb (c .before .before .before .first-at .result .0) 32 (w .0 .taken), w .3 .ensures, w .2 .ensures, w .1 .ensures))
+    (λ w. rw (w .3, w .4, w .5, is-carried, ← f, le-ltb (c .before .before .before .first-at .result .0) 32 (w .0 .left), w .2 .ensures, w .1 .ensures ∙ ap (λ (x : Pool). withFree x (a .block)) i))
+    (c .before .if2 .came) in
     c .carried .ensures ∙ m
 
 pub block-release-spec : {M : Type 1} → statement M

@@ -1,134 +1,184 @@
 use borrow.Author.Needs.{needs}
+use mathlib.Core.Path.{_≡_, sym, ap, _∙_}
+use mathlib.Core.Logic.{⊎-elim}
+use mathlib.Core.Bool.{false}
+use mathlib.Core.List.{List}
+use Prim.Native.Nat.{ℕ, _<_, _≤_}
+use native.Mathlib.Omega.{arith}
+use lib.ListN.{length}
+use borrow.Author.Tests.{lt-ltb, le-ltb}
+use Rattle.lines.proofs.Laws.Lists.{getD-any}
+use Rattle.scheduler.specs.declared.Scheduler.{Scheduler}
+use Rattle.scheduler.specs.Orders.{firstAt, woken}
+use Rattle.scheduler.proofs.Laws.Threads.{length-mapped}
+use Rattle.objects.specs.declared.queue.Queue.{Queue}
+use Rattle.objects.specs.Queues.{emptyb, oldest, withoutOldest, givenPast, leftPast}
+use Rattle.calls.specs.declared.held.Held.{Held}
+use Rattle.calls.specs.Held.{noHeld, noWords, holding, waiting}
+use Rattle.calls.specs.Statuses.{success}
+use Rattle.calls.specs.Refusals.{receiveRefusal}
+use Rattle.kernel.specs.declared.Kernel.{Kernel}
+use Rattle.kernel.specs.Tables.{queueAt, heldAt, withScheduler, withHeld, withQueue}
+use Rattle.kernel.specs.Answers.{answerOf, refused, carried, answered}
+use Rattle.kernel.specs.Waits.{endWait, startWait}
+use Rattle.kernel.specs.Queues.{queuePlace, receivePast, receiveFrom, queueReceive}
+use Rattle.kernel.proofs.Laws.Answers.{is-refused, is-carried, held-out, queue-out}
 use Rattle.kernel.proofs.Kernel.queue_receive.Statement.{statement}
 use Rattle.kernel.proofs.Kernel.queue_receive.Tie as tie
-use Rattle.kernel.proofs.Kernel.queue_receive.Reads as reads
-use Rattle.kernel.proofs.Kernel.queue_receive.Lts as lts
-use Rattle.calls.proofs.held.Held.of.Reads as of-reads
-use Rattle.calls.proofs.refusal.receive.Reads as receive-reads
-use Rattle.kernel.proofs.Kernel.carried.Reads as carried-reads
-use Rattle.kernel.proofs.Kernel.refused.Reads as refused-reads
-use Rattle.kernel.proofs.queues.place.Reads as place-reads
-use Rattle.kernel.proofs.queues.queue_in.Reads as queue-in-reads
-use Rattle.kernel.proofs.waits.with_runner_waiting.Reads as with-runner-waiting-reads
-use Rattle.objects.proofs.queue.Queue.given_past.Reads as given-past-reads
-use Rattle.objects.proofs.queue.Queue.is_empty.Reads as is-empty-reads
-use Rattle.objects.proofs.queue.Queue.left_past.Reads as left-past-reads
-use Rattle.objects.proofs.queue.Queue.oldest.Reads as oldest-reads
-use Rattle.objects.proofs.queue.Queue.without_oldest.Reads as without-oldest-reads
-use Rattle.scheduler.proofs.Scheduler.first_at.Reads as first-at-reads
-use Rattle.scheduler.proofs.Scheduler.woken.Reads as woken-reads
 
--- src/queues.rt:155:13
+-- a receive past the sender first in line, by what the tables, the queue and the reply then are
+from-sender :
+    (k y : Kernel) (n wait : ℕ) (q left : Queue) (s : Scheduler) (words : List ℕ) (ended t : ℕ) (h : Held) →
+    t ≡ firstAt (k .scheduler) (queuePlace n) → emptyb q ≡ false → t < 32 → h ≡ heldAt k t →
+    y ≡ withHeld k t (holding success noWords) → left ≡ leftPast q (h .front) (h .message) → s ≡ woken (k .scheduler) t →
+    words ≡ givenPast q (h .front) (h .message) → ended ≡ 1 →
+    answered (withQueue y n left) s success words ended ≡ answerOf (receiveFrom k n q wait)
+unfolding receiveFrom receivePast endWait answerOf carried answered withScheduler withHeld withQueue
+from-sender k y n wait q left s words ended t h f e o g a b c d w =
+    (λ j. answered (withQueue (a j) n (b j)) (c j) success (d j) (w j)) ∙ rw (e, ← f, lt-ltb t 32 o, g)
+
+-- a receive of the oldest message, with nobody in line
+from-store :
+    (k y : Kernel) (n wait : ℕ) (q left : Queue) (s : Scheduler) (words : List ℕ) (ended t : ℕ) →
+    t ≡ firstAt (k .scheduler) (queuePlace n) → emptyb q ≡ false → 32 ≤ t →
+    y ≡ k → left ≡ withoutOldest q → s ≡ k .scheduler → words ≡ oldest q → ended ≡ 0 →
+    answered (withQueue y n left) s success words ended ≡ answerOf (receiveFrom k n q wait)
+unfolding receiveFrom answerOf carried answered withScheduler withQueue
+from-store k y n wait q left s words ended t f e o a b c d w =
+    (λ j. answered (withQueue (a j) n (b j)) (c j) success (d j) (w j)) ∙ rw (e, ← f, le-ltb t 32 o)
+
 queue-in-requires : tie.Need-queue-in-requires
 queue-in-requires c κs = search needs
 
--- src/queues.rt:156:13
 receive-requires : tie.Need-receive-requires
 receive-requires c κs = search needs
 
--- src/queues.rt:158:13
 refused-requires : tie.Need-refused-requires
 refused-requires c κs = search needs
 
--- src/queues.rt:158:13
 returns : tie.Need-returns
-returns c = ?
+unfolding queueReceive queueAt
+returns c =
+    let a = c .before .before .before .before .before .args in
+    let e = c .before .before .receive .ensures ∙ ap (λ (q : Queue). receiveRefusal q (a .wait) (a .caller)) (c .before .before .before .queue-in .ensures) in
+    c .refused .ensures ∙ ap answerOf (ap (refused (a .t1)) e ∙ sym (is-refused (a .t1) (receiveRefusal (queueAt (a .t1) (a .n .0)) (a .wait) (a .caller)) _ (λ w. c .before .if1 .taken (e ∙ w))))
 
--- src/queues.rt:164:12
 is-empty-requires : tie.Need-is-empty-requires
 is-empty-requires c κs = search needs
 
--- src/queues.rt:166:21
 cast-i : tie.Need-cast-i
 cast-i c = search needs
 
--- src/queues.rt:167:13
 with-runner-waiting-requires : tie.Need-with-runner-waiting-requires
 with-runner-waiting-requires c κs = search needs
 
--- src/queues.rt:170:21
 of-requires : tie.Need-of-requires
 of-requires c κs = search needs
 
--- src/queues.rt:171:17
 mul-h : tie.Need-mul-h
 mul-h c = search needs
 
--- src/queues.rt:171:17
 element-set-from-h : tie.Need-element-set-from-h
 element-set-from-h c = search needs
 
--- src/queues.rt:174:32
 place-requires : tie.Need-place-requires
 place-requires c κs = search needs
 
--- src/queues.rt:174:17
 first-at-requires : tie.Need-first-at-requires
 first-at-requires c κs = search needs
 
--- src/queues.rt:175:21
 cast-i-2 : tie.Need-cast-i-2
 cast-i-2 c = search needs
 
--- src/queues.rt:178:30
 mul-sender : tie.Need-mul-sender
 mul-sender c = search needs
 
--- src/queues.rt:178:30
 element-copy-out-sender : tie.Need-element-copy-out-sender
 element-copy-out-sender c = search needs
 
--- src/queues.rt:180:17
 given-past-requires : tie.Need-given-past-requires
 given-past-requires c κs = search needs
 
--- src/queues.rt:181:17
 left-past-requires : tie.Need-left-past-requires
 left-past-requires c κs = search needs
 
--- src/queues.rt:182:21
 of-requires-2 : tie.Need-of-requires-2
 of-requires-2 c κs = search needs
 
--- src/queues.rt:183:17
 mul-h-2 : tie.Need-mul-h-2
 mul-h-2 c = search needs
 
--- src/queues.rt:183:17
 element-set-from-h-2 : tie.Need-element-set-from-h-2
 element-set-from-h-2 c = search needs
 
--- src/queues.rt:184:17
 woken-requires : tie.Need-woken-requires
 woken-requires c κs = search needs
 
--- src/queues.rt:187:17
 oldest-requires : tie.Need-oldest-requires
 oldest-requires c κs = search needs
 
--- src/queues.rt:188:17
 without-oldest-requires : tie.Need-without-oldest-requires
 without-oldest-requires c κs = search needs
 
--- src/queues.rt:190:21
 cast-j : tie.Need-cast-j
 cast-j c = search needs
 
--- src/queues.rt:192:17
 mul-left : tie.Need-mul-left
 mul-left c = search needs
 
--- src/queues.rt:192:17
 element-set-from-left : tie.Need-element-set-from-left
 element-set-from-left c = search needs
 
--- src/queues.rt:195:9
 carried-requires : tie.Need-carried-requires
 carried-requires c κs = search needs
 
--- src/queues.rt:151:5
 returns-2 : tie.Need-returns-2
-returns-2 c = ?
+unfolding queueReceive queueAt receiveFrom startWait heldAt answerOf carried answered withScheduler withHeld withQueue
+returns-2 c =
+    let a = c .before .before .before .before .before .before .before .before .args in
+    let q = c .before .before .before .before .before .before .queue-in .result in
+    let i = c .before .before .before .before .before .before .queue-in .ensures in
+    let e = c .before .before .before .before .before .receive .ensures ∙ ap (λ (x : Queue). receiveRefusal x (a .wait) (a .caller)) i in
+    let z : receiveRefusal (queueAt (a .t1) (a .n .0)) (a .wait) (a .caller) ≡ 0 = sym e ∙ c .before .before .before .before .if1 .left in
+    let l : length (a .t1 .held) ≡ 32 = length-mapped _ (a .t1 .held) 32 (c .before .before .before .before .before .before .before .before .good .0 .1 .1 .1 .0 .1 .0 .1) in
+    let u : length (a .t1 .queues) ≡ 8 = length-mapped _ (a .t1 .queues) 8 (c .before .before .before .before .before .before .before .before .good .0 .1 .1 .1 .1 .1 .0 .1 .0 .1) in
+    let m : answered (c .before .if2 .self) (c .before .if2 .s) (c .before .if2 .status) (c .before .if2 .words) (c .before .if2 .ended) ≡ answerOf (receiveFrom (a .t1) (a .n .0) q (a .wait)) =
+    ⊎-elim
+    (λ w. rw (w .6, w .7, w .8, w .9, w .10, ← c .before .before .is-empty .ensures, w .0 .taken, w .3 .ensures, w .5 .ensures))
+    (λ w. ⊎-elim
+    (λ v. rw (v .5 ∙ sym (held-out (a .t1) (a .t1 .scheduler .running .0) waiting l (v .4 .left)), v .6, v .7, v .8, v .9, ← c .before .before .is-empty .ensures, v .0 .taken, v .3 .ensures))
+    (λ v. ⊎-elim
+    (λ x.
+    let y = x .4 in
+    let t = x .2 .result .0 in
+    let f : t ≡ firstAt (a .t1 .scheduler) (queuePlace (a .n .0)) = x .2 .ensures ∙ ap (firstAt (a .t1 .scheduler)) (x .1 .ensures) in
+    let n : emptyb q ≡ false = sym (c .before .before .is-empty .ensures) ∙ x .0 .left in
+    let g : answered (withQueue (y .self) (a .n .0) (y .left)) (y .s) success (y .words) (y .ended) ≡ answerOf (receiveFrom (a .t1) (a .n .0) q (a .wait)) =
+    ⊎-elim
+    (λ p.
+    let h = getD-any (a .t1 .held) t _ noHeld (let o = p .0 .taken in omega (arith, l, o)) in
+    from-sender (a .t1) (y .self) (a .n .0) (a .wait) q (y .left) (y .s) (y .words) (y .ended) t _ f n (p .0 .taken) h (p .7 ∙ ap (withHeld (a .t1) t) (p .5 .ensures)) (p .11 ∙ p .4 .ensures) (p .8 ∙ p .6 .ensures) (p .10 ∙ p .3 .ensures) (p .9))
+    (λ p. from-store (a .t1) (y .self) (a .n .0) (a .wait) q (y .left) (y .s) (y .words) (y .ended) t f n (p .0 .left) (p .3) (p .7 ∙ p .2 .ensures) (p .4) (p .6 ∙ p .1 .ensures) (p .5))
+    (y .came) in
+    rw (x .7, x .8, x .9, x .10, x .11) g)
+    (λ x.
+    let y = x .4 in
+    let t = x .2 .result .0 in
+    let f : t ≡ firstAt (a .t1 .scheduler) (queuePlace (a .n .0)) = x .2 .ensures ∙ ap (firstAt (a .t1 .scheduler)) (x .1 .ensures) in
+    let n : emptyb q ≡ false = sym (c .before .before .is-empty .ensures) ∙ x .0 .left in
+    let g : answered (withQueue (y .self) (a .n .0) (y .left)) (y .s) success (y .words) (y .ended) ≡ answerOf (receiveFrom (a .t1) (a .n .0) q (a .wait)) =
+    ⊎-elim
+    (λ p.
+    let h = getD-any (a .t1 .held) t _ noHeld (let o = p .0 .taken in omega (arith, l, o)) in
+    from-sender (a .t1) (y .self) (a .n .0) (a .wait) q (y .left) (y .s) (y .words) (y .ended) t _ f n (p .0 .taken) h (p .7 ∙ ap (withHeld (a .t1) t) (p .5 .ensures)) (p .11 ∙ p .4 .ensures) (p .8 ∙ p .6 .ensures) (p .10 ∙ p .3 .ensures) (p .9))
+    (λ p. from-store (a .t1) (y .self) (a .n .0) (a .wait) q (y .left) (y .s) (y .words) (y .ended) t f n (p .0 .left) (p .3) (p .7 ∙ p .2 .ensures) (p .4) (p .6 ∙ p .1 .ensures) (p .5))
+    (y .came) in
+    let b : length (y .self .queues) ≡ 8 = ⊎-elim (λ p. ap (λ (k : Kernel). length (k .queues)) (p .7) ∙ u) (λ p. ap (λ (k : Kernel). length (k .queues)) (p .3) ∙ u) (y .came) in
+    rw (x .7 ∙ sym (queue-out (y .self) (a .n .0) (y .left) b (x .6 .left)), x .8, x .9, x .10, x .11) g)
+    v)
+    w)
+    (c .before .if2 .came) in
+    rw is-carried (c .carried .ensures ∙ m ∙ ap (λ (x : Queue). answerOf (receiveFrom (a .t1) (a .n .0) x (a .wait))) i)
 
 pub queue-receive-spec : {M : Type 1} → statement M
 queue-receive-spec =

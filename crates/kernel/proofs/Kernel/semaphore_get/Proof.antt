@@ -1,7 +1,6 @@
 use borrow.Author.Needs.{needs}
 use mathlib.Core.Path.{_≡_, sym, ap, _∙_}
 use mathlib.Core.Logic.{⊎-elim}
-
 use Prim.Native.Nat.{_-_}
 use borrow.Author.Tests.{lt-ltb, le-ltb}
 use lib.ListN.{length}
@@ -69,13 +68,13 @@ returns-2 c =
     let z : semaphoreGetRefusal (semaphoreAt (a .t1) (a .n .0)) (a .wait) (a .caller) ≡ 0 = sym e ∙ c .before .before .before .before .if1 .left in
     let l : length (a .t1 .held) ≡ 32 = length-mapped _ (a .t1 .held) 32 (c .before .before .before .before .before .before .before .before .good .0 .1 .1 .1 .0 .1 .0 .1) in
     let m : answered (c .before .if2 .self) (c .before .if2 .s) (c .before .if2 .status) noWords 0 ≡ answerOf (semaphoreGet (a .t1) (a .caller) (a .n .0) (a .wait)) =
-        ⊎-elim
-        (λ w. rw (w .4, w .5, w .6, is-carried, ← c .before .before .before .before .before .before .semaphore-in .ensures, lt-ltb 0 (x .count) (w .0 .taken), w .3 .ensures, w .2 .ensures))
-        (λ w. ⊎-elim
-        (λ v. rw (v .6, v .7, v .8, is-carried, ← c .before .before .before .before .before .before .semaphore-in .ensures, le-ltb 0 (x .count) (v .0 .left), v .3 .ensures, v .5 .ensures))
-        (λ v. rw (v .5 ∙ sym (held-out (a .t1) (a .t1 .scheduler .running .0) waiting l (v .4 .left)), v .6, v .7, is-carried, ← c .before .before .before .before .before .before .semaphore-in .ensures, le-ltb 0 (x .count) (v .0 .left), v .3 .ensures))
-        w)
-        (c .before .if2 .came) in
+    ⊎-elim
+    (λ w. rw (w .4, w .5, w .6, is-carried, ← c .before .before .before .before .before .before .semaphore-in .ensures, lt-ltb 0 (x .count) (w .0 .taken), w .3 .ensures, w .2 .ensures))
+    (λ w. ⊎-elim
+    (λ v. rw (v .6, v .7, v .8, is-carried, ← c .before .before .before .before .before .before .semaphore-in .ensures, le-ltb 0 (x .count) (v .0 .left), v .3 .ensures, v .5 .ensures))
+    (λ v. rw (v .5 ∙ sym (held-out (a .t1) (a .t1 .scheduler .running .0) waiting l (v .4 .left)), v .6, v .7, is-carried, ← c .before .before .before .before .before .before .semaphore-in .ensures, le-ltb 0 (x .count) (v .0 .left), v .3 .ensures))
+    w)
+    (c .before .if2 .came) in
     c .carried .ensures ∙ m
 
 pub semaphore-get-spec : {M : Type 1} → statement M

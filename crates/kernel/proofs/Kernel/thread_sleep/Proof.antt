@@ -1,7 +1,6 @@
 use borrow.Author.Needs.{needs}
 use mathlib.Core.Path.{_≡_, sym, ap, _∙_}
 use mathlib.Core.Logic.{⊎-elim}
-
 use borrow.Author.Tests.{eq-eqb, ne-eqb}
 use lib.ListN.{length}
 use Rattle.scheduler.proofs.Laws.Threads.{length-mapped}
@@ -54,13 +53,13 @@ returns-2 c =
     let z : threadOnlyRefusal (a .caller) ≡ 0 = sym e ∙ c .before .before .before .if1 .left in
     let l : length (a .t1 .held) ≡ 32 = length-mapped _ (a .t1 .held) 32 (c .before .before .before .before .before .good .0 .1 .1 .1 .0 .1 .0 .1) in
     let m : answered (c .before .if2 .self) (c .before .if2 .s) (c .before .if2 .status) noWords 0 ≡ answerOf (threadSleep (a .t1) (a .caller) (a .ticks)) =
-        ⊎-elim
-        (λ w. rw (w .6, w .7, w .8, is-carried, ne-eqb (a .ticks) 0 (w .0 .taken), w .3 .ensures, w .5 .ensures))
-        (λ w. ⊎-elim
-        (λ v. rw (v .5 ∙ sym (held-out (a .t1) (a .t1 .scheduler .running .0) waiting l (v .4 .left)), v .6, v .7, is-carried, ne-eqb (a .ticks) 0 (v .0 .taken), v .3 .ensures))
-        (λ v. rw (v .1, v .2, v .3, is-carried, eq-eqb (a .ticks) 0 (v .0 .left)))
-        w)
-        (c .before .if2 .came) in
+    ⊎-elim
+    (λ w. rw (w .6, w .7, w .8, is-carried, ne-eqb (a .ticks) 0 (w .0 .taken), w .3 .ensures, w .5 .ensures))
+    (λ w. ⊎-elim
+    (λ v. rw (v .5 ∙ sym (held-out (a .t1) (a .t1 .scheduler .running .0) waiting l (v .4 .left)), v .6, v .7, is-carried, ne-eqb (a .ticks) 0 (v .0 .taken), v .3 .ensures))
+    (λ v. rw (v .1, v .2, v .3, is-carried, eq-eqb (a .ticks) 0 (v .0 .left)))
+    w)
+    (c .before .if2 .came) in
     c .carried .ensures ∙ m
 
 pub thread-sleep-spec : {M : Type 1} → statement M
