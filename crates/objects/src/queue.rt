@@ -2,6 +2,7 @@
 ghost use mathlib.Core.Path.{_≡_};
 ghost use Rattle.lines.specs.Slots.{zeroFrom};
 ghost use mathlib.Core.List.{_++_};
+ghost use mathlib.Core.Bool.{_&&_};
 ghost use Prim.Native.Nat.{_-_, min};
 ghost use lib.ListN.{getD};
 ghost use Rattle.lines.specs.Lines.{pad};
@@ -114,10 +115,13 @@ impl Queue {
         any == 0
     }
 
-    // Whether the record is fit in itself, asked of a queue with no message: the quick case, since then all words of the store are alike.
+    // Whether no message is stored and the record is fit in itself: the quick case, since then all words of the store are alike.
     pub fn is_fit_empty(self) -> bool
-        ensures { λ r. ⌜ (self .stored ≡ 0 → r ≡ queueFitb self) ⌝ }
+        ensures { λ r. ⌜ r ≡ (emptyb self && queueFitb self) ⌝ }
     {
+        if !self.is_empty() {
+            return false;
+        }
         if !self.is_blank() {
             return false;
         }

@@ -43,6 +43,10 @@ none-more f t ok p q = sym (and-true ok) ∙ one-more f t ok true p (sym q)
 pub past-more : (f : ℕ → Bool) (t : ℕ) → f t ≡ false → false ≡ allBelow (t + 1) f
 past-more f t q = sym (and-false (allBelow t f)) ∙ one-more f t (allBelow t f) false refl (sym q)
 
+-- ---- a test of two parts, where the first holds, is the second
+pub and-rest : {a b c : Bool} → c ≡ (a && b) → a ≡ true → c ≡ b
+and-rest {b = b} e h = e ∙ ap (λ (x : Bool). x && b) h
+
 -- ---- a number against the size of a table
 pub inside : {n m l : ℕ} → n < m → l ≡ m → n < l
 inside h e = omega arith

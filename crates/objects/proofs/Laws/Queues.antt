@@ -362,17 +362,22 @@ module _ (q : Queue) (e : queueFitb q ≡ true) (u : q .created ≡ true) where
       (λ b. ap fullb (last-room (withoutOldest q) m (without-room w)) ∙ ap (λ (n : ℕ). eqb n (q .storage / q .words)) (one-again w) ∙ f)
 
 -- ---- a queue with no message is fit where its store is zero throughout and its sizes are
-module _ (q : Queue) (e : q .stored ≡ 0) where
+module _ (q : Queue) (w : emptyb q ≡ true) where
+  none-stored : q .stored ≡ 0
+  unfolding emptyb
+  none-stored = eqb-true (q .stored) 0 w
+
   empty-created : q .created ≡ true → queueFitb q ≡ (queueLimitsb q && zeroFrom 0 (q .store))
   unfolding storeFitb usedWords
   empty-created c =
+      let e = none-stored in
       let room = le-leb (q .stored) (capacityOf q) (omega (arith, e)) in
       let none : q .stored * q .words ≡ 0 = ap (λ (n : ℕ). n * q .words) e ∙ zero-mul (q .words) in
       fit-created q c ∙ rw (room, none)
 
   empty-uncreated : q .created ≡ false → queueFitb q ≡ (eqb (q .words) 0 && eqb (q .storage) 0 && zeroFrom 0 (q .store))
   unfolding queueZerob
-  empty-uncreated c = fit-uncreated q c ∙ rw (eq-eqb (q .stored) 0 e, and-true)
+  empty-uncreated c = fit-uncreated q c ∙ rw (eq-eqb (q .stored) 0 none-stored, and-true)
 
   pub empty-stained : zeroFrom 0 (q .store) ≡ false → queueFitb q ≡ false
   empty-stained z =

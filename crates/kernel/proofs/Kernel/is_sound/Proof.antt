@@ -2,6 +2,7 @@ use mathlib.Core.Path.{_≡_, refl, sym, ap, ap₂, _∙_}
 use Prim.Native.Nat.{_≤_, _+_, _-_}
 use native.Mathlib.Omega.{arith}
 use borrow.Author.Needs.{needs}
+use borrow.Author.Tests.{eq-eqb}
 use lib.ListN.{length}
 use Rattle.lines.specs.Logic.{allBelow}
 use Rattle.lines.proofs.Laws.Lists.{getD-any}
@@ -9,7 +10,7 @@ use Rattle.scheduler.specs.Threads.{noThread}
 use Rattle.scheduler.specs.Orders.{threadAt}
 use Rattle.scheduler.proofs.Laws.Threads.{length-mapped}
 use Rattle.objects.specs.Semaphores.{noSemaphore}
-use Rattle.objects.specs.Queues.{noQueue, queueFitb}
+use Rattle.objects.specs.Queues.{noQueue, emptyb, queueFitb}
 use Rattle.objects.specs.Groups.{noGroup}
 use Rattle.blocks.specs.Pools.{noPool, poolFitb}
 use Rattle.blocks.proofs.Laws.Pools
@@ -17,7 +18,7 @@ use Rattle.calls.specs.Held.{noHeld}
 use Rattle.waiting.specs.Fit.{heldFitb, queuesFitb, poolsFitb}
 use Rattle.kernel.specs.Tables.{threadOf, heldAt, semaphoreAt, queueAt, groupAt, poolAt}
 use Rattle.kernel.specs.Sound.{waitFitb, soundb}
-use Rattle.kernel.proofs.Laws.Sound.{waits-none, waits-rest, waits-queue, waits-semaphore, waits-group, waits-pool, past-queues, past-semaphores, past-groups, past-pools, inside, outside, one-more, none-more, past-more, resting-read, unheld-read}
+use Rattle.kernel.proofs.Laws.Sound.{waits-none, waits-rest, waits-queue, waits-semaphore, waits-group, waits-pool, past-queues, past-semaphores, past-groups, past-pools, inside, outside, one-more, none-more, past-more, and-rest, resting-read, unheld-read}
 use Rattle.kernel.proofs.Kernel.is_sound.Statement.{statement}
 use Rattle.kernel.proofs.Kernel.is_sound.Tie as tie
 
@@ -373,12 +374,12 @@ loop2-less : tie.Need-loop2-less Inv-loop μ-loop Inv-loop2 μ-loop2 Inv-loop3 �
 loop2-less c = search needs
 
 loop2-again : tie.Need-loop2-again Inv-loop μ-loop Inv-loop2 μ-loop2 Inv-loop3 μ-loop3
-unfolding queueAt
+unfolding queueAt emptyb
 loop2-again c =
     let k = c .before .before .before .before .before .before .before .before .before .args .t1 in
     let l = c .before .before .before .before .loop2 in
     let e = getD-any (k .queues) (l .q) _ noQueue (inside (c .before .before .before .loop2-test .taken) (c .before .before .before .before .before .before .loop .inv .4)) in
-    (omega arith, one-more (λ n. queueFitb (queueAt k n)) (l .q) (l .queues) _ (l .inv .1) (c .is-fit-empty .ensures (c .before .before .if11 .taken) ∙ ap queueFitb e))
+    (omega arith, one-more (λ n. queueFitb (queueAt k n)) (l .q) (l .queues) _ (l .inv .1) (and-rest (c .is-fit-empty .ensures) (eq-eqb _ 0 (c .before .before .if11 .taken)) ∙ ap queueFitb e))
 
 mul-is-fit : tie.Need-mul-is-fit Inv-loop μ-loop Inv-loop2 μ-loop2 Inv-loop3 μ-loop3
 mul-is-fit c = search needs
