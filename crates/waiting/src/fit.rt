@@ -1,6 +1,6 @@
 // Tests of what a thread holds and waits for, and of the tables of objects.
 ghost use mathlib.Core.Path.{_≡_};
-ghost use mathlib.Core.Bool.{true, false};
+ghost use mathlib.Core.Bool.{true, false, _&&_};
 ghost use lib.Dec.{eqb};
 ghost use Rattle.scheduler.specs.declared.thread.Thread.{Thread};
 ghost use Rattle.scheduler.specs.Threads.{pausedb};
@@ -50,10 +50,13 @@ pub fn waits_on(th: Thread, state: u8) -> bool
     th.created & (th.state == state)
 }
 
-// Whether what a thread holds fits its record, asked of one that waits or sleeps.
+// Whether a thread waits or sleeps, and what it holds fits its record.
 pub fn paused_fits(th: Thread, h: Held) -> bool
-    ensures { λ r. ⌜ (pausedb th ≡ true → r ≡ heldFitb th h) ⌝ }
+    ensures { λ r. ⌜ r ≡ (pausedb th && heldFitb th h) ⌝ }
 {
+    if !th.is_paused() {
+        return false;
+    }
     let held_words = h.words;
     let message = h.message;
     let words = joined(held_words);

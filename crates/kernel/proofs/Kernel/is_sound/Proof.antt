@@ -102,7 +102,7 @@ loop-again c =
     let b : l .t + 1 ≤ 32 = omega arith in
     let e = getD-any (k .scheduler .threads) (l .t) _ noThread (inside t (i .1)) in
     let d = getD-any (k .held) (l .t) _ noHeld (inside t (i .2)) in
-    let w = one-more (λ n. heldFitb (threadOf k n) (heldAt k n)) (l .t) (l .held) _ (i .7) (c .before .before .before .before .before .paused-fits .ensures (sym (c .before .before .before .before .before .before .before .before .is-paused .ensures) ∙ c .before .before .before .before .before .before .before .if1 .taken) ∙ ap₂ heldFitb e d) in
+    let w = one-more (λ n. heldFitb (threadOf k n) (heldAt k n)) (l .t) (l .held) _ (i .7) (and-rest (c .before .before .before .before .before .paused-fits .ensures) (sym (c .before .before .before .before .before .before .before .before .is-paused .ensures) ∙ c .before .before .before .before .before .before .before .if1 .taken) ∙ ap₂ heldFitb e d) in
     let q = getD-any (k .queues) _ _ noQueue (inside (c .before .before .if3 .taken) (i .4)) in
     (b, i .1, i .2, i .3, i .4, i .5, i .6, w, one-more (waitFitb k) (l .t) (l .waits) _ (i .8) (c .queue-waits .ensures ∙ waits-queue k (l .t) _ e _ _ d q (sym (c .before .before .before .before .waits-on .ensures) ∙ c .before .before .before .if2 .taken)))
 
@@ -119,7 +119,7 @@ loop-again-2 c =
     let b : l .t + 1 ≤ 32 = omega arith in
     let e = getD-any (k .scheduler .threads) (l .t) _ noThread (inside t (i .1)) in
     let d = getD-any (k .held) (l .t) _ noHeld (inside t (i .2)) in
-    let w = one-more (λ n. heldFitb (threadOf k n) (heldAt k n)) (l .t) (l .held) _ (i .7) (c .before .before .before .paused-fits .ensures (sym (c .before .before .before .before .before .before .is-paused .ensures) ∙ c .before .before .before .before .before .if1 .taken) ∙ ap₂ heldFitb e d) in
+    let w = one-more (λ n. heldFitb (threadOf k n) (heldAt k n)) (l .t) (l .held) _ (i .7) (and-rest (c .before .before .before .paused-fits .ensures) (sym (c .before .before .before .before .before .before .is-paused .ensures) ∙ c .before .before .before .before .before .if1 .taken) ∙ ap₂ heldFitb e d) in
     (b, i .1, i .2, i .3, i .4, i .5, i .6, w, past-more (waitFitb k) (l .t) (past-queues k (l .t) _ e (outside (c .if3 .left) (i .4)) (sym (c .before .before .waits-on .ensures) ∙ c .before .if2 .taken)))
 
 waits-on-requires-2 :
@@ -151,7 +151,7 @@ loop-again-3 c =
     let b : l .t + 1 ≤ 32 = omega arith in
     let e = getD-any (k .scheduler .threads) (l .t) _ noThread (inside t (i .1)) in
     let d = getD-any (k .held) (l .t) _ noHeld (inside t (i .2)) in
-    let w = one-more (λ n. heldFitb (threadOf k n) (heldAt k n)) (l .t) (l .held) _ (i .7) (c .before .before .before .before .before .before .before .paused-fits .ensures (sym (c .before .before .before .before .before .before .before .before .before .before .is-paused .ensures) ∙ c .before .before .before .before .before .before .before .before .before .if1 .taken) ∙ ap₂ heldFitb e d) in
+    let w = one-more (λ n. heldFitb (threadOf k n) (heldAt k n)) (l .t) (l .held) _ (i .7) (and-rest (c .before .before .before .before .before .before .before .paused-fits .ensures) (sym (c .before .before .before .before .before .before .before .before .before .before .is-paused .ensures) ∙ c .before .before .before .before .before .before .before .before .before .if1 .taken) ∙ ap₂ heldFitb e d) in
     let q = getD-any (k .semaphores) _ _ noSemaphore (inside (c .before .before .if5 .taken) (i .3)) in
     (b, i .1, i .2, i .3, i .4, i .5, i .6, w, one-more (waitFitb k) (l .t) (l .waits) _ (i .8) (c .semaphore-waits .ensures ∙ waits-semaphore k (l .t) _ e _ q (sym (c .before .before .before .before .waits-on2 .ensures) ∙ c .before .before .before .if4 .taken)))
 
@@ -168,7 +168,7 @@ loop-again-4 c =
     let b : l .t + 1 ≤ 32 = omega arith in
     let e = getD-any (k .scheduler .threads) (l .t) _ noThread (inside t (i .1)) in
     let d = getD-any (k .held) (l .t) _ noHeld (inside t (i .2)) in
-    let w = one-more (λ n. heldFitb (threadOf k n) (heldAt k n)) (l .t) (l .held) _ (i .7) (c .before .before .before .before .before .paused-fits .ensures (sym (c .before .before .before .before .before .before .before .before .is-paused .ensures) ∙ c .before .before .before .before .before .before .before .if1 .taken) ∙ ap₂ heldFitb e d) in
+    let w = one-more (λ n. heldFitb (threadOf k n) (heldAt k n)) (l .t) (l .held) _ (i .7) (and-rest (c .before .before .before .before .before .paused-fits .ensures) (sym (c .before .before .before .before .before .before .before .before .is-paused .ensures) ∙ c .before .before .before .before .before .before .before .if1 .taken) ∙ ap₂ heldFitb e d) in
     (b, i .1, i .2, i .3, i .4, i .5, i .6, w, past-more (waitFitb k) (l .t) (past-semaphores k (l .t) _ e (outside (c .if5 .left) (i .3)) (sym (c .before .before .waits-on2 .ensures) ∙ c .before .if4 .taken)))
 
 waits-on-requires-3 :
@@ -199,7 +199,7 @@ loop-again-5 c =
     let b : l .t + 1 ≤ 32 = omega arith in
     let e = getD-any (k .scheduler .threads) (l .t) _ noThread (inside t (i .1)) in
     let d = getD-any (k .held) (l .t) _ noHeld (inside t (i .2)) in
-    let w = one-more (λ n. heldFitb (threadOf k n) (heldAt k n)) (l .t) (l .held) _ (i .7) (c .before .before .before .before .before .before .before .before .before .paused-fits .ensures (sym (c .before .before .before .before .before .before .before .before .before .before .before .before .is-paused .ensures) ∙ c .before .before .before .before .before .before .before .before .before .before .before .if1 .taken) ∙ ap₂ heldFitb e d) in
+    let w = one-more (λ n. heldFitb (threadOf k n) (heldAt k n)) (l .t) (l .held) _ (i .7) (and-rest (c .before .before .before .before .before .before .before .before .before .paused-fits .ensures) (sym (c .before .before .before .before .before .before .before .before .before .before .before .before .is-paused .ensures) ∙ c .before .before .before .before .before .before .before .before .before .before .before .if1 .taken) ∙ ap₂ heldFitb e d) in
     let q = getD-any (k .groups) _ _ noGroup (inside (c .before .before .if7 .taken) (i .5)) in
     (b, i .1, i .2, i .3, i .4, i .5, i .6, w, one-more (waitFitb k) (l .t) (l .waits) _ (i .8) (c .group-waits .ensures ∙ waits-group k (l .t) _ e _ _ d q (sym (c .before .before .before .before .waits-on3 .ensures) ∙ c .before .before .before .if6 .taken)))
 
@@ -216,7 +216,7 @@ loop-again-6 c =
     let b : l .t + 1 ≤ 32 = omega arith in
     let e = getD-any (k .scheduler .threads) (l .t) _ noThread (inside t (i .1)) in
     let d = getD-any (k .held) (l .t) _ noHeld (inside t (i .2)) in
-    let w = one-more (λ n. heldFitb (threadOf k n) (heldAt k n)) (l .t) (l .held) _ (i .7) (c .before .before .before .before .before .before .before .paused-fits .ensures (sym (c .before .before .before .before .before .before .before .before .before .before .is-paused .ensures) ∙ c .before .before .before .before .before .before .before .before .before .if1 .taken) ∙ ap₂ heldFitb e d) in
+    let w = one-more (λ n. heldFitb (threadOf k n) (heldAt k n)) (l .t) (l .held) _ (i .7) (and-rest (c .before .before .before .before .before .before .before .paused-fits .ensures) (sym (c .before .before .before .before .before .before .before .before .before .before .is-paused .ensures) ∙ c .before .before .before .before .before .before .before .before .before .if1 .taken) ∙ ap₂ heldFitb e d) in
     (b, i .1, i .2, i .3, i .4, i .5, i .6, w, past-more (waitFitb k) (l .t) (past-groups k (l .t) _ e (outside (c .if7 .left) (i .5)) (sym (c .before .before .waits-on3 .ensures) ∙ c .before .if6 .taken)))
 
 waits-on-requires-4 :
@@ -247,7 +247,7 @@ loop-again-7 c =
     let b : l .t + 1 ≤ 32 = omega arith in
     let e = getD-any (k .scheduler .threads) (l .t) _ noThread (inside t (i .1)) in
     let d = getD-any (k .held) (l .t) _ noHeld (inside t (i .2)) in
-    let w = one-more (λ n. heldFitb (threadOf k n) (heldAt k n)) (l .t) (l .held) _ (i .7) (c .before .before .before .before .before .before .before .before .before .before .before .paused-fits .ensures (sym (c .before .before .before .before .before .before .before .before .before .before .before .before .before .before .is-paused .ensures) ∙ c .before .before .before .before .before .before .before .before .before .before .before .before .before .if1 .taken) ∙ ap₂ heldFitb e d) in
+    let w = one-more (λ n. heldFitb (threadOf k n) (heldAt k n)) (l .t) (l .held) _ (i .7) (and-rest (c .before .before .before .before .before .before .before .before .before .before .before .paused-fits .ensures) (sym (c .before .before .before .before .before .before .before .before .before .before .before .before .before .before .is-paused .ensures) ∙ c .before .before .before .before .before .before .before .before .before .before .before .before .before .if1 .taken) ∙ ap₂ heldFitb e d) in
     let q = getD-any (k .pools) _ _ noPool (inside (c .before .before .if9 .taken) (i .6)) in
     (b, i .1, i .2, i .3, i .4, i .5, i .6, w, one-more (waitFitb k) (l .t) (l .waits) _ (i .8) (c .pool-waits .ensures ∙ waits-pool k (l .t) _ e _ q (sym (c .before .before .before .before .waits-on4 .ensures) ∙ c .before .before .before .if8 .taken)))
 
@@ -264,7 +264,7 @@ loop-again-8 c =
     let b : l .t + 1 ≤ 32 = omega arith in
     let e = getD-any (k .scheduler .threads) (l .t) _ noThread (inside t (i .1)) in
     let d = getD-any (k .held) (l .t) _ noHeld (inside t (i .2)) in
-    let w = one-more (λ n. heldFitb (threadOf k n) (heldAt k n)) (l .t) (l .held) _ (i .7) (c .before .before .before .before .before .before .before .before .before .paused-fits .ensures (sym (c .before .before .before .before .before .before .before .before .before .before .before .before .is-paused .ensures) ∙ c .before .before .before .before .before .before .before .before .before .before .before .if1 .taken) ∙ ap₂ heldFitb e d) in
+    let w = one-more (λ n. heldFitb (threadOf k n) (heldAt k n)) (l .t) (l .held) _ (i .7) (and-rest (c .before .before .before .before .before .before .before .before .before .paused-fits .ensures) (sym (c .before .before .before .before .before .before .before .before .before .before .before .before .is-paused .ensures) ∙ c .before .before .before .before .before .before .before .before .before .before .before .if1 .taken) ∙ ap₂ heldFitb e d) in
     (b, i .1, i .2, i .3, i .4, i .5, i .6, w, past-more (waitFitb k) (l .t) (past-pools k (l .t) _ e (outside (c .if9 .left) (i .6)) (sym (c .before .before .waits-on4 .ensures) ∙ c .before .if8 .taken)))
 
 loop-less-9 : tie.Need-loop-less-9 Inv-loop μ-loop Inv-loop2 μ-loop2 Inv-loop3 μ-loop3
@@ -280,7 +280,7 @@ loop-again-9 c =
     let b : l .t + 1 ≤ 32 = omega arith in
     let e = getD-any (k .scheduler .threads) (l .t) _ noThread (inside t (i .1)) in
     let d = getD-any (k .held) (l .t) _ noHeld (inside t (i .2)) in
-    let w = one-more (λ n. heldFitb (threadOf k n) (heldAt k n)) (l .t) (l .held) _ (i .7) (c .before .before .before .before .before .before .before .before .paused-fits .ensures (sym (c .before .before .before .before .before .before .before .before .before .before .before .is-paused .ensures) ∙ c .before .before .before .before .before .before .before .before .before .before .if1 .taken) ∙ ap₂ heldFitb e d) in
+    let w = one-more (λ n. heldFitb (threadOf k n) (heldAt k n)) (l .t) (l .held) _ (i .7) (and-rest (c .before .before .before .before .before .before .before .before .paused-fits .ensures) (sym (c .before .before .before .before .before .before .before .before .before .before .before .is-paused .ensures) ∙ c .before .before .before .before .before .before .before .before .before .before .if1 .taken) ∙ ap₂ heldFitb e d) in
     (b, i .1, i .2, i .3, i .4, i .5, i .6, w, none-more (waitFitb k) (l .t) (l .waits) (i .8) (waits-none k (l .t) _ e (sym (c .before .before .before .before .before .before .before .waits-on .ensures) ∙ c .before .before .before .before .before .before .if2 .left) (sym (c .before .before .before .before .before .waits-on2 .ensures) ∙ c .before .before .before .before .if4 .left) (sym (c .before .before .before .waits-on3 .ensures) ∙ c .before .before .if6 .left) (sym (c .before .waits-on4 .ensures) ∙ c .if8 .left)))
 
 mul-resting-fits : tie.Need-mul-resting-fits Inv-loop μ-loop Inv-loop2 μ-loop2 Inv-loop3 μ-loop3
