@@ -13,7 +13,6 @@ use Rattle.tape.specs.declared.Record.{Record}
 use Rattle.tape.specs.Tapes.{noRecord, countOf, recordAt, recordsOf}
 use Rattle.tape.proofs.Laws.Tapes.{length-records, record-in}
 use Rattle.kernel.specs.declared.Kernel.{Kernel}
-use Rattle.kernel.specs.declared.Answer.{Answer}
 use Rattle.lines.specs.Logic.{if_then_else_}
 use mathlib.Core.Bool.{Bool, false}
 use Rattle.kernel.specs.Answers.{answerOf}

@@ -1,12 +1,10 @@
--- Laws of replies: sixteen words spelled out, and how many words a reply has.
-use mathlib.Core.Path.{_≡_, refl, sym, ap, _∙_}
-use mathlib.Core.List.{List, [], _∷_, _++_}
-use Prim.Native.Nat.{ℕ, zero, suc, _+_, _≤_, _<_}
+-- Laws of replies: sixteen words spelled out.
+use mathlib.Core.Path.{_≡_, ap, _∙_}
+use mathlib.Core.List.{List, [], _∷_}
+use Prim.Native.Nat.{ℕ, zero, suc, _+_}
 use native.Mathlib.Omega.{arith}
-use lib.ListN.{length, getD, drop, length-append}
+use lib.ListN.{length, getD, drop}
 use lib.Seq.{drop-cons, drop-length}
-use Rattle.tape.specs.declared.replies.Reply.{Reply}
-use Rattle.tape.specs.Replies.{replyWords}
 
 -- n elements of a list from place i on, one by one
 abbrev pub spelt : List ℕ → ℕ → ℕ → List ℕ
@@ -22,8 +20,3 @@ spelled l (suc n) i e =
 -- sixteen words, one by one
 pub sixteen : (l : List ℕ) → length l ≡ 16 → l ≡ spelt l 16 0
 sixteen l e = spelled l 16 0 e
-
--- a reply has nineteen words
-pub length-reply : (r : Reply) → length (r .words) ≡ 16 → length (replyWords r) ≡ 19
-unfolding replyWords
-length-reply r e = ap suc (length-append (r .words) (r .next ∷ r .ended ∷ []) ∙ ap (λ (n : ℕ). n + 2) e)
