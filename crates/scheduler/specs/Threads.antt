@@ -60,6 +60,10 @@ waitsb th = th .created && ltb asleep (th .state)
 unfoldable pub pausedb : Thread → Bool
 pausedb th = waitsb th || sleepsb th
 
+-- completed, terminated or suspended
+unfoldable pub restsb : Thread → Bool
+restsb th = th .created && ltb ready (th .state) && ltb (th .state) asleep
+
 -- ready and marked; a mark says that the thread was replaced while its threshold protected it (01's mark)
 unfoldable pub markedb : Thread → Bool
 markedb th = readyb th && th .marked

@@ -1,11 +1,10 @@
 // What scheduling needs of a thread, and the place where a thread stands.
 ghost use mathlib.Core.Path.{_≡_};
-ghost use mathlib.Core.Bool.{true, _&&_};
-ghost use Prim.Native.Nat.{_<_, _≤_};
+ghost use mathlib.Core.Bool.{_&&_};
 ghost use lib.Dec.{leb};
 ghost use Rattle.lines.specs.Logic.{if_then_else_, implies};
 ghost use Rattle.lines.specs.Lists.{worst};
-ghost use Rattle.scheduler.specs.Threads.{uncreated, noThread, readyb, waitsb, pausedb, standsb, numberOf, placedb, inState, awake, withSuspension, created};
+ghost use Rattle.scheduler.specs.Threads.{uncreated, noThread, readyb, waitsb, pausedb, restsb, standsb, numberOf, placedb, inState, awake, withSuspension, created};
 ghost use Rattle.scheduler.specs.Orders.{keyAt};
 ghost use Rattle.scheduler.specs.Choice.{wantedb, consideredOf};
 ghost use Rattle.scheduler.specs.Sound.{limitsb, zerob, fitb, countedb};
@@ -213,12 +212,13 @@ impl Thread {
         (self.state <= ON_BLOCK) & (self.priority < WORST) & (self.threshold <= self.priority)
     }
 
-    // Whether a ready thread's record is fit in itself, and the thread not better than `limit`.
+    // Whether the thread is ready and not better than `limit`, and its record fit in itself.
     fn is_fit_ready(self, limit: u8) -> bool
-        ensures { λ r. ⌜ (self .created ≡ true → self .state ≡ 0 → r ≡ (fitb self && leb limit (self .priority))) ⌝ }
+        ensures { λ r. ⌜ r ≡ (readyb self && fitb self && leb limit (self .priority)) ⌝ }
     {
         let mark = !self.marked | (self.threshold < self.priority);
-        let fit = self.is_limited()
+        let fit = self.is_ready()
+            & self.is_limited()
             & mark
             & !self.suspending
             & (self.ticks == 0)
@@ -226,19 +226,25 @@ impl Thread {
         fit & (limit <= self.priority)
     }
 
-    // Whether the record of a completed, terminated or suspended thread is fit in itself.
+    // Whether the thread is completed, terminated or suspended, and its record fit in itself.
     fn is_fit_resting(self) -> bool
-        ensures { λ r. ⌜ (self .created ≡ true → 0 < self .state → self .state < 4 → r ≡ fitb self) ⌝ }
+        ensures { λ r. ⌜ r ≡ (restsb self && fitb self) ⌝ }
     {
-        self.is_limited() & !self.marked & !self.suspending & (self.ticks == 0) & (self.object == 0)
+        let rests = self.created & (READY < self.state) & (self.state < ASLEEP);
+        rests
+            & self.is_limited()
+            & !self.marked
+            & !self.suspending
+            & (self.ticks == 0)
+            & (self.object == 0)
     }
 
-    // Whether the record of a thread that waits or sleeps is fit in itself.
+    // Whether the thread waits or sleeps, and its record is fit in itself.
     fn is_fit_paused(self) -> bool
-        ensures { λ r. ⌜ (self .created ≡ true → 4 ≤ self .state → r ≡ fitb self) ⌝ }
+        ensures { λ r. ⌜ r ≡ (pausedb self && fitb self) ⌝ }
     {
         let object = (ASLEEP < self.state) | (self.object == 0);
-        self.is_limited() & !self.marked & (0 < self.ticks) & object
+        self.is_paused() & self.is_limited() & !self.marked & (0 < self.ticks) & object
     }
 
     // Whether the record is fit, says that its thread stands `n` times, and is not that of a ready thread better than `limit`.

@@ -13,11 +13,11 @@ use Rattle.lines.proofs.Laws.Logic.{by-test, never, and-left, and-right, and-in
 use Rattle.lines.proofs.Laws.Slots.{same-test}
 use Rattle.scheduler.specs.declared.thread.Thread.{Thread}
 use Rattle.scheduler.specs.declared.Scheduler.{Scheduler}
-use Rattle.scheduler.specs.Threads.{noThread, readyb, waitsb, pausedb, standsb}
+use Rattle.scheduler.specs.Threads.{noThread, readyb, waitsb, pausedb, restsb, standsb}
 use Rattle.scheduler.specs.Orders.{threadAt, priorityAt, thresholdAt, runner}
 use Rattle.scheduler.specs.Sound.{limitsb, markFitb, suspensionFitb, ticksFitb, objectFitb, fitb, countedb, steadyb, runsb, Steady, Runs, Sound, soundb}
 use Rattle.scheduler.proofs.Laws.Threads.{none-at, none-ready, none-unmarked, fit-created, fit-low}
-use Rattle.scheduler.proofs.Laws.States.{rest-not-paused, paused-in, waits-in}
+use Rattle.scheduler.proofs.Laws.States.{rest-not-paused, paused-made, paused-in, waits-in}
 use Rattle.scheduler.proofs.Laws.Testing
 
 -- ---- one record, by its state
@@ -47,13 +47,18 @@ module _ (th : Thread) (made : th .created ≡ true) where
   unfolding readyb
   ready-in s = and-in (th .created) (eqb (th .state) 0) made (eq-eqb (th .state) 0 s)
 
-  pub fit-ready : th .state ≡ 0
+  pub rests-in : 0 < th .state → th .state < 4 → restsb th ≡ true
+  unfolding restsb
+  rests-in l h =
+      and-in (th .created && ltb 0 (th .state)) (ltb (th .state) 4) (and-in (th .created) (ltb 0 (th .state)) made (lt-ltb 0 (th .state) l)) (lt-ltb (th .state) 4 h)
+
+  fit-ready : th .state ≡ 0
       → (limitsb th && (not (th .marked) || ltb (th .threshold) (th .priority)) && not (th .suspending) && eqb (th .ticks) 0 && eqb (th .object) 0) ≡ fitb th
   unfolding markFitb suspensionFitb ticksFitb objectFitb implies
   fit-ready s =
       sym (fit-created th made ∙ rw (ready-in s, rest-not-paused th (omega (arith, s)), not-waiting th (omega (arith, s)), or-false))
 
-  pub fit-resting : 0 < th .state → th .state < 4
+  fit-resting : 0 < th .state → th .state < 4
       → (limitsb th && not (th .marked) && not (th .suspending) && eqb (th .ticks) 0 && eqb (th .object) 0) ≡ fitb th
   unfolding markFitb suspensionFitb ticksFitb objectFitb implies
   fit-resting l h =
@@ -63,12 +68,40 @@ module _ (th : Thread) (made : th .created ≡ true) where
   unfolding waitsb
   waits-made = ap (λ (b : Bool). b && ltb 4 (th .state)) made
 
-  pub fit-paused : 4 ≤ th .state
+  fit-paused : 4 ≤ th .state
       → (limitsb th && not (th .marked) && ltb 0 (th .ticks) && (ltb 4 (th .state) || eqb (th .object) 0)) ≡ fitb th
   unfolding markFitb suspensionFitb ticksFitb objectFitb implies
   fit-paused l =
       sym (fit-created th made
       ∙ rw (not-ready th (omega (arith, l)), paused-in th made l, waits-made, or-false, or-true, and-true (limitsb th && not (th .marked)), and-true (ltb 0 (th .ticks))))
+
+-- ---- the same of every record, with the test of its state in front
+module _ (th : Thread) where
+  pub ready-fit :
+      (readyb th && limitsb th && (not (th .marked) || ltb (th .threshold) (th .priority)) && not (th .suspending) && eqb (th .ticks) 0 && eqb (th .object) 0)
+      ≡ (readyb th && fitb th)
+  unfolding readyb
+  ready-fit =
+      by-test (th .created && eqb (th .state) 0)
+      (λ r. rw r (fit-ready th (and-left (th .created) (eqb (th .state) 0) r) (eqb-true (th .state) 0 (and-right (th .created) (eqb (th .state) 0) r))))
+      (λ r. rw r)
+
+  pub rests-fit : (restsb th && limitsb th && not (th .marked) && not (th .suspending) && eqb (th .ticks) 0 && eqb (th .object) 0) ≡ (restsb th && fitb th)
+  unfolding restsb
+  rests-fit =
+      by-test (th .created && ltb 0 (th .state) && ltb (th .state) 4)
+      (λ r. let l = and-left (th .created && ltb 0 (th .state)) (ltb (th .state) 4) r in
+      rw r (fit-resting th (and-left (th .created) (ltb 0 (th .state)) l) (ltb-true 0 (th .state) (and-right (th .created) (ltb 0 (th .state)) l)) (ltb-true (th .state) 4 (and-right (th .created && ltb 0 (th .state)) (ltb (th .state) 4) r))))
+      (λ r. rw r)
+
+  paused-late : pausedb th ≡ true → 4 ≤ th .state
+  paused-late p = by-test (ltb (th .state) 4) (λ w. never p (rest-not-paused th (ltb-true (th .state) 4 w))) (λ w. ltb-false (th .state) 4 w)
+
+  pub paused-fit : (pausedb th && limitsb th && not (th .marked) && ltb 0 (th .ticks) && (ltb 4 (th .state) || eqb (th .object) 0)) ≡ (pausedb th && fitb th)
+  paused-fit =
+      by-test (pausedb th)
+      (λ p. rw p (fit-paused th (paused-made th p) (paused-late p)))
+      (λ p. rw p)
 
 -- ---- a record that says how often its thread stands, and that no ready thread is better than a limit
 module _ (n limit : ℕ) (th : Thread) where

@@ -29,6 +29,10 @@ rest-not-paused th l = (λ i. (th .created && le-ltb 4 (th .state) (omega (arith
     neither true = refl
     neither false = refl
 
+pub paused-made : (th : Thread) → pausedb th ≡ true → th .created ≡ true
+unfolding pausedb waitsb sleepsb
+paused-made th p = by-test (th .created) (λ e. e) (λ e. never p (rw e))
+
 module _ (th : Thread) (made : th .created ≡ true) where
   pub waits-in : 4 < th .state → waitsb th ≡ true
   unfolding waitsb

@@ -11,6 +11,7 @@ use Rattle.lines.proofs.Laws.Logic.{by-test, never, and-left, and-right, and-in
 use Rattle.lines.proofs.Laws.Slots.{or-none}
 use Rattle.scheduler.specs.declared.thread.Thread.{Thread}
 use Rattle.scheduler.specs.Threads.{waitsb, sleepsb, pausedb}
+use Rattle.scheduler.proofs.Laws.States.{paused-made}
 use Rattle.calls.specs.declared.held.Held.{Held}
 use Rattle.calls.specs.Statuses as Statuses
 use Rattle.waiting.specs.Fit.{blankFrom, waitsOnb, sendsb, statusFitb, wordsFitb, senderFitb, requestFitb, unheldFitb, heldFitb}
@@ -141,10 +142,6 @@ module _ (h : Held) (m : ℕ) (e : eqb m 0 ≡ blankFrom 0 (h .message)) where
       unheld-sending s = unheld h th unpaused u ∙ rw (s, and-false)
 
 -- ---- who waits or sleeps
-paused-made : (th : Thread) → pausedb th ≡ true → th .created ≡ true
-unfolding pausedb waitsb sleepsb
-paused-made th p = by-test (th .created) (λ e. e) (λ e. never p (rw e))
-
 module _ (h : Held) (th : Thread) (p : pausedb th ≡ true) where
   abbrev unsent : Bool
   unsent = blankFrom 0 (h .message) && not (h .sending) && not (h .front)

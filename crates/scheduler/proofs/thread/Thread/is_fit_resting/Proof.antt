@@ -1,5 +1,6 @@
 use borrow.Author.Needs.{needs}
-use Rattle.scheduler.proofs.Laws.Placing.{fit-resting}
+use Rattle.scheduler.specs.Threads.{restsb}
+use Rattle.scheduler.proofs.Laws.Placing.{rests-fit}
 use Rattle.scheduler.proofs.thread.Thread.is_fit_resting.Statement.{statement}
 use Rattle.scheduler.proofs.thread.Thread.is_fit_resting.Tie as tie
 
@@ -7,7 +8,8 @@ is-limited-requires : tie.Need-is-limited-requires
 is-limited-requires c κs = search needs
 
 returns : tie.Need-returns
-returns c = λ made late early. rw (c .before .before .before .before .is-limited .ensures, fit-resting (c .before .before .before .before .before .args .self) made late early)
+unfolding restsb
+returns c = rw (c .before .before .before .before .is-limited .ensures) (rests-fit (c .before .before .before .before .before .before .before .before .args .self))
 
 pub is-fit-resting-spec : {M : Type 1} → statement M
 is-fit-resting-spec = tie.close (tie.spec is-limited-requires returns)

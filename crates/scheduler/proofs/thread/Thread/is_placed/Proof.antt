@@ -1,11 +1,13 @@
-use mathlib.Core.Path.{_≡_, sym, ap, _∙_}
+use mathlib.Core.Path.{sym, ap, _∙_}
 use mathlib.Core.Bool.{Bool, true, false, _&&_}
 use Prim.Native.Nat.{_≤_, _<_}
 use native.Mathlib.Omega.{arith}
-use lib.Dec.{eqb}
+use lib.Dec.{eqb, leb}
 use Rattle.lines.specs.Logic.{oneIf}
-use Rattle.scheduler.proofs.Laws.Threads.{fit-uncreated, ready-stands}
-use Rattle.scheduler.proofs.Laws.Placing.{not-ready, none-stands-uncreated, rest-stands, wait-stands, ready-in, placed-ready, placed-other}
+use Rattle.scheduler.specs.Sound.{fitb}
+use Rattle.scheduler.proofs.Laws.Threads.{fit-uncreated}
+use Rattle.scheduler.proofs.Laws.States.{paused-in}
+use Rattle.scheduler.proofs.Laws.Placing.{not-ready, none-stands-uncreated, rest-stands, wait-stands, ready-in, rests-in, placed-ready, placed-other}
 use borrow.Author.Needs.{needs}
 use Rattle.scheduler.proofs.thread.Thread.is_placed.Statement.{statement}
 use Rattle.scheduler.proofs.thread.Thread.is_placed.Tie as tie
@@ -18,8 +20,8 @@ unfolding oneIf
 returns c =
     let a = c .before .before .before .before .args in
     let made = c .before .before .before .if1 .taken in
-    let s = c .before .if2 .taken in
-    ap (λ (b : Bool). eqb (a .n) 1 && b) (c .is-fit-ready .ensures made s) ∙ placed-ready (a .n) (a .limit) (a .self) (ready-in (a .self) made s)
+    let r = ready-in (a .self) made (c .before .if2 .taken) in
+    ap (λ (b : Bool). eqb (a .n) 1 && b) (c .is-fit-ready .ensures ∙ ap (λ (b : Bool). b && fitb (a .self) && leb (a .limit) (a .self .priority)) r) ∙ placed-ready (a .n) (a .limit) (a .self) r
 
 is-fit-resting-requires : tie.Need-is-fit-resting-requires
 is-fit-resting-requires c κs = search needs
@@ -30,7 +32,7 @@ returns-2 c =
     let a = c .before .before .before .before .before .before .args in
     let l : 0 < a .self .state = omega arith in
     let h = c .before .if3 .taken in
-    ap (λ (b : Bool). eqb (a .n) 0 && b) (c .is-fit-resting .ensures (c .before .before .before .before .before .if1 .taken) l h)
+    ap (λ (b : Bool). eqb (a .n) 0 && b) (c .is-fit-resting .ensures ∙ ap (λ (b : Bool). b && fitb (a .self)) (rests-in (a .self) (c .before .before .before .before .before .if1 .taken) l h))
     ∙ placed-other (a .n) (a .limit) (a .self) false (rest-stands (a .self) l (omega arith)) (not-ready (a .self) l)
 
 is-fit-paused-requires : tie.Need-is-fit-paused-requires
@@ -42,7 +44,7 @@ returns-3 c =
     let a = c .before .before .before .before .before .before .before .before .args in
     let l : 0 < a .self .state = omega arith in
     let h : 4 ≤ a .self .state = omega arith in
-    ap (λ (b : Bool). eqb (a .n) 0 && b) (c .is-fit-paused .ensures (c .before .before .before .before .before .before .before .if1 .taken) h)
+    ap (λ (b : Bool). eqb (a .n) 0 && b) (c .is-fit-paused .ensures ∙ ap (λ (b : Bool). b && fitb (a .self)) (paused-in (a .self) (c .before .before .before .before .before .before .before .if1 .taken) h))
     ∙ placed-other (a .n) (a .limit) (a .self) false (rest-stands (a .self) l (omega arith)) (not-ready (a .self) l)
 
 is-fit-paused-requires-2 : tie.Need-is-fit-paused-requires-2
@@ -56,7 +58,7 @@ returns-4 c =
     let l : 0 < a .self .state = omega arith in
     let h : 4 < a .self .state = omega arith in
     let w : 4 ≤ a .self .state = omega arith in
-    ap (λ (b : Bool). eqb (a .n) 1 && b) (c .is-fit-paused2 .ensures made w)
+    ap (λ (b : Bool). eqb (a .n) 1 && b) (c .is-fit-paused2 .ensures ∙ ap (λ (b : Bool). b && fitb (a .self)) (paused-in (a .self) made w))
     ∙ placed-other (a .n) (a .limit) (a .self) true (wait-stands (a .self) made h) (not-ready (a .self) l)
 
 is-zero-requires : tie.Need-is-zero-requires
