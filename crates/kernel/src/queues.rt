@@ -1,12 +1,8 @@
 // Queue services.
 ghost use mathlib.Core.Path.{_≡_};
-ghost use mathlib.Core.Bool.{true, false};
 ghost use lib.ListN.{getD};
 ghost use Rattle.objects.specs.Queues.{noQueue};
-ghost use Rattle.calls.specs.Statuses.{success};
-ghost use Rattle.calls.specs.Messages.{messageIn};
-ghost use Rattle.kernel.specs.Tables.{withQueue};
-ghost use Rattle.kernel.specs.Answers.{answerOf, answered};
+ghost use Rattle.kernel.specs.Answers.{answerOf};
 ghost use Rattle.kernel.specs.Queues.{queuePlace, queueCreate, endQueue, queueDelete, queueSend, queueReceive, queueFlush, queuePrioritize};
 use super::Answer;
 use super::Kernel;
@@ -19,7 +15,6 @@ use calls::status::SUCCESS;
 use calls::status::WAITING;
 use objects::queue::Queue;
 use objects::queue::QueueId;
-use scheduler::Scheduler;
 use scheduler::thread::ON_QUEUE;
 use scheduler::thread::Place;
 
@@ -42,24 +37,6 @@ fn place(n: QueueId) -> Place
 }
 
 impl Kernel {
-    // The answer of a call that is done with another record for queue `n` and the scheduler `s`.
-    fn queue_carried(
-        mut self,
-        n: QueueId,
-        q: Queue,
-        s: Scheduler,
-        words: [u32; 16],
-        ended: u32,
-    ) -> Answer
-        ensures { λ r. ⌜ r ≡ answered (withQueue self (n .0) q) s success words ended ⌝ }
-    {
-        let i = n.0 as usize;
-        if i < 8 {
-            self.queues[i] = q;
-        }
-        self.carried(s, SUCCESS, words, ended)
-    }
-
     // The waits of all at queue `n` end with a status, and the queue has another record.
     fn queue_ended(mut self, n: QueueId, q: Queue, status: u32) -> Answer
         ensures { λ r. ⌜ r ≡ answerOf (endQueue self (n .0) q status) ⌝ }
@@ -73,7 +50,13 @@ impl Kernel {
         self.ended_each(line, status, [0; 16])
     }
 
-    pub(crate) fn queue_create(self, caller: u32, n: QueueId, words: u32, storage: u32) -> Answer
+    pub(crate) fn queue_create(
+        mut self,
+        caller: u32,
+        n: QueueId,
+        words: u32,
+        storage: u32,
+    ) -> Answer
         ensures { λ r. ⌜ r ≡ answerOf (queueCreate self caller (n .0) words storage) ⌝ }
     {
         let all = self.queues;
@@ -82,7 +65,12 @@ impl Kernel {
             return self.refused(reason);
         }
         let s = self.scheduler;
-        self.queue_carried(n, Queue::of(words, storage), s, [0; 16], 0)
+        let q = Queue::of(words, storage);
+        let i = n.0 as usize;
+        if i < 8 {
+            self.queues[i] = q;
+        }
+        self.carried(s, SUCCESS, [0; 16], 0)
     }
 
     pub(crate) fn queue_delete(self, caller: u32, n: QueueId) -> Answer
@@ -128,10 +116,10 @@ impl Kernel {
                 s = s.woken(f);
                 ended = 1;
             } else {
-                let left = q.with_sent(front, message);
+                let filled = q.with_sent(front, message);
                 let j = n.0 as usize;
                 if j < 8 {
-                    self.queues[j] = left;
+                    self.queues[j] = filled;
                 }
             }
         } else {

@@ -1,6 +1,9 @@
-use mathlib.Core.Path.{_≡_, sym, ap, _∙_}
-use native.Mathlib.Omega.{arith}
 use borrow.Author.Needs.{needs}
+use mathlib.Core.Path.{_≡_, sym, ap, _∙_}
+use mathlib.Core.Logic.{⊎-elim}
+use native.Mathlib.Omega.{arith}
+use lib.ListN.{length}
+use Rattle.scheduler.proofs.Laws.Threads.{length-mapped}
 use Rattle.objects.specs.declared.queue.Queue.{Queue}
 use Rattle.objects.specs.Queues.{sizesFitb, emptyQueue}
 use Rattle.objects.proofs.Laws.Queues.{words-byte, storage-byte}
@@ -8,7 +11,7 @@ use Rattle.calls.specs.Refusals.{queueCreateRefusal}
 use Rattle.kernel.specs.Tables.{queueAt, withScheduler, withQueue}
 use Rattle.kernel.specs.Answers.{answerOf, refused, carried, answered}
 use Rattle.kernel.specs.Queues.{queueCreate}
-use Rattle.kernel.proofs.Laws.Answers.{is-refused, is-carried, first-none, second-none, unless-none}
+use Rattle.kernel.proofs.Laws.Answers.{is-refused, is-carried, first-none, second-none, unless-none, queue-out}
 use Rattle.kernel.proofs.Kernel.queue_create.Statement.{statement}
 use Rattle.kernel.proofs.Kernel.queue_create.Tie as tie
 
@@ -26,24 +29,34 @@ unfolding queueCreate queueAt
 returns c =
     let a = c .before .before .before .before .before .args in
     let e = c .before .before .queue-create .ensures ∙ ap (λ (q : Queue). queueCreateRefusal (a .n .0) q (a .words) (a .storage) (a .caller)) (c .before .before .before .queue-in .ensures) in
-    c .refused .ensures ∙ ap answerOf (ap (refused (a .self)) e ∙ sym (is-refused (a .self) (queueCreateRefusal (a .n .0) (queueAt (a .self) (a .n .0)) (a .words) (a .storage) (a .caller)) _ (λ w. c .before .if1 .taken (e ∙ w))))
+    c .refused .ensures ∙ ap answerOf (ap (refused (a .t1)) e ∙ sym (is-refused (a .t1) (queueCreateRefusal (a .n .0) (queueAt (a .t1) (a .n .0)) (a .words) (a .storage) (a .caller)) _ (λ w. c .before .if1 .taken (e ∙ w))))
 
 of-requires : tie.Need-of-requires
 of-requires c κs = search needs
 
-queue-carried-requires : tie.Need-queue-carried-requires
-queue-carried-requires c κs = search needs
+cast-i : tie.Need-cast-i
+cast-i c = search needs
+
+mul-q : tie.Need-mul-q
+mul-q c = search needs
+
+element-set-from-q : tie.Need-element-set-from-q
+element-set-from-q c = search needs
+
+carried-requires : tie.Need-carried-requires
+carried-requires c κs = search needs
 
 returns-2 : tie.Need-returns-2
 unfolding queueCreate queueCreateRefusal answerOf carried answered withScheduler withQueue queueAt
 returns-2 c =
-    let a = c .before .before .before .before .before .before .before .args in
-    let i = c .before .before .before .before .before .queue-in .ensures in
-    let e = c .before .before .before .before .queue-create .ensures ∙ ap (λ (q : Queue). queueCreateRefusal (a .n .0) q (a .words) (a .storage) (a .caller)) i in
-    let z : queueCreateRefusal (a .n .0) (queueAt (a .self) (a .n .0)) (a .words) (a .storage) (a .caller) ≡ 0 = sym e ∙ c .before .before .before .if1 .left in
-    let s = unless-none (sizesFitb (a .words) (a .storage)) 5 (omega arith) (first-none _ _ (second-none _ _ z)) in
-    let x : c .before .of .result ≡ emptyQueue (a .words) (a .storage) = c .before .of .ensures ∙ (λ j. emptyQueue (words-byte (a .words) (a .storage) s j) (storage-byte (a .words) (a .storage) s j)) in
-    rw is-carried (c .queue-carried .ensures ∙ rw x)
+    let a = c .before .before .before .before .before .before .before .before .before .args in
+    let e = c .before .before .before .before .before .before .queue-create .ensures ∙ ap (λ (q : Queue). queueCreateRefusal (a .n .0) q (a .words) (a .storage) (a .caller)) (c .before .before .before .before .before .before .before .queue-in .ensures) in
+    let z : queueCreateRefusal (a .n .0) (queueAt (a .t1) (a .n .0)) (a .words) (a .storage) (a .caller) ≡ 0 = sym e ∙ c .before .before .before .before .before .if1 .left in
+    let f = unless-none (sizesFitb (a .words) (a .storage)) 5 (omega arith) (first-none _ _ (second-none _ _ z)) in
+    let x : c .before .before .before .of .result ≡ emptyQueue (a .words) (a .storage) = c .before .before .before .of .ensures ∙ (λ j. emptyQueue (words-byte (a .words) (a .storage) f j) (storage-byte (a .words) (a .storage) f j)) in
+    let l : length (a .t1 .queues) ≡ 8 = length-mapped _ (a .t1 .queues) 8 (c .before .before .before .before .before .before .before .before .before .good .0 .1 .1 .1 .1 .1 .0 .1 .0 .1) in
+    let m : c .before .if2 .self ≡ withQueue (a .t1) (a .n .0) (c .before .before .before .of .result) = ⊎-elim (λ w. w .1) (λ w. w .1 ∙ sym (queue-out (a .t1) (a .n .0) (c .before .before .before .of .result) l (w .0 .left))) (c .before .if2 .came) in
+    rw is-carried (c .carried .ensures ∙ rw (m, x))
 
 pub queue-create-spec : {M : Type 1} → statement M
 queue-create-spec =
@@ -54,5 +67,8 @@ queue-create-spec =
     refused-requires
     returns
     of-requires
-    queue-carried-requires
+    cast-i
+    mul-q
+    element-set-from-q
+    carried-requires
     returns-2)

@@ -66,11 +66,11 @@ with-sent-requires c κs = search needs
 cast-j : tie.Need-cast-j
 cast-j c = search needs
 
-mul-left : tie.Need-mul-left
-mul-left c = search needs
+mul-filled : tie.Need-mul-filled
+mul-filled c = search needs
 
-element-set-from-left : tie.Need-element-set-from-left
-element-set-from-left c = search needs
+element-set-from-filled : tie.Need-element-set-from-filled
+element-set-from-filled c = search needs
 
 cast-i-2 : tie.Need-cast-i-2
 cast-i-2 c = search needs
@@ -135,8 +135,8 @@ queue-send-spec =
     woken-requires
     with-sent-requires
     cast-j
-    mul-left
-    element-set-from-left
+    mul-filled
+    element-set-from-filled
     cast-i-2
     with-runner-waiting-requires
     sender-requires
