@@ -16,7 +16,7 @@ use Rattle.kernel.specs.declared.Answer.{Answer}
 use Rattle.kernel.specs.Tables.{started, runnerOf, heldAt, semaphoreAt, queueAt, groupAt, poolAt}
 use Rattle.kernel.specs.Semaphores.{semaphorePlace}
 use Rattle.kernel.specs.Views.{blockView}
-use Rattle.claims.specs.Lists.{Made, answer}
+use Rattle.claims.specs.Lists.{answer}
 
 -- the lent message area: three messages of one word, A, B and C
 abbrev pub messages : List ℕ

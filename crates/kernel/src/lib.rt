@@ -2,7 +2,6 @@
 //
 // A service takes the tables by value and returns them inside its answer.
 ghost use mathlib.Core.Path.{_≡_};
-ghost use mathlib.Core.List.{List, []};
 ghost use lib.ListN.{getD};
 ghost use Rattle.objects.specs.Semaphores.{noSemaphore};
 ghost use Rattle.calls.specs.Held.{noHeld, noWords, twoWords};

@@ -1,6 +1,5 @@
 // Waits: their start, and the end of several at once.
 ghost use mathlib.Core.Path.{_≡_};
-ghost use mathlib.Core.List.{List, []};
 ghost use Rattle.lines.specs.Lines.{members};
 ghost use Rattle.scheduler.specs.Threads.{inState};
 ghost use Rattle.scheduler.specs.Orders.{threadAt, joined};

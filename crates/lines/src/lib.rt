@@ -1,6 +1,6 @@
 // Thread numbers, and ordered lines of them.
 ghost use mathlib.Core.Path.{_≡_};
-ghost use mathlib.Core.List.{List, [], _∷_, _++_};
+ghost use mathlib.Core.List.{[], _++_};
 ghost use lib.ListN.{length};
 ghost use Rattle.lines.specs.Logic.{if_then_else_};
 ghost use Rattle.lines.specs.Lists.{without, onlyIf, toEnd, toFront, count, first, bestOf, prioritised};

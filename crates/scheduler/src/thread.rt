@@ -2,11 +2,10 @@
 ghost use mathlib.Core.Path.{_≡_};
 ghost use mathlib.Core.Bool.{_&&_};
 ghost use lib.Dec.{leb};
-ghost use Rattle.lines.specs.Logic.{if_then_else_, implies};
-ghost use Rattle.lines.specs.Lists.{worst};
+ghost use Rattle.lines.specs.Logic.{implies};
 ghost use Rattle.scheduler.specs.Threads.{uncreated, noThread, readyb, waitsb, pausedb, restsb, standsb, numberOf, placedb, inState, awake, withSuspension, created};
 ghost use Rattle.scheduler.specs.Orders.{keyAt};
-ghost use Rattle.scheduler.specs.Choice.{wantedb, consideredOf};
+ghost use Rattle.scheduler.specs.Choice.{wantedb};
 ghost use Rattle.scheduler.specs.Sound.{limitsb, zerob, fitb, countedb};
 
 pub const READY: u8 = 0;

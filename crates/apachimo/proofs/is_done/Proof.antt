@@ -1,5 +1,4 @@
 use mathlib.Core.Path.{refl}
-use Prim.Native.Nat.{_-_}
 use Rattle.kernel.specs.Claims.{doneb}
 use Rattle.apachimo.proofs.is_done.Statement.{statement}
 use Rattle.apachimo.proofs.is_done.Tie as tie

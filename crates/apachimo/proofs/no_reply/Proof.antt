@@ -1,5 +1,4 @@
 use mathlib.Core.Path.{refl}
-use Prim.Native.Nat.{_-_}
 use borrow.Author.Needs.{needs}
 use Rattle.apachimo.specs.Library.{noReply}
 use Rattle.apachimo.proofs.no_reply.Statement.{statement}

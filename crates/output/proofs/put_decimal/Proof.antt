@@ -1,5 +1,5 @@
 use mathlib.Core.Path.{_∙_}
-use Prim.Native.Nat.{_<_, _-_, _^_}
+use Prim.Native.Nat.{_<_, _^_}
 use borrow.Author.Needs.{needs}
 use Rattle.output.proofs.Laws.Decimals.{digits-all}
 use Rattle.output.proofs.put_decimal.Statement.{statement}

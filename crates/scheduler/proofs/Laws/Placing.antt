@@ -15,7 +15,7 @@ use Rattle.scheduler.specs.declared.thread.Thread.{Thread}
 use Rattle.scheduler.specs.declared.Scheduler.{Scheduler}
 use Rattle.scheduler.specs.Threads.{noThread, readyb, waitsb, pausedb, restsb, standsb}
 use Rattle.scheduler.specs.Orders.{threadAt, priorityAt, thresholdAt, runner}
-use Rattle.scheduler.specs.Sound.{limitsb, markFitb, suspensionFitb, ticksFitb, objectFitb, fitb, countedb, steadyb, runsb, Steady, Runs, Sound, soundb}
+use Rattle.scheduler.specs.Sound.{limitsb, markFitb, suspensionFitb, ticksFitb, objectFitb, fitb, countedb, steadyb, runsb, Steady, Runs, soundb}
 use Rattle.scheduler.proofs.Laws.Threads.{none-at, none-ready, none-unmarked, fit-created, fit-low}
 use Rattle.scheduler.proofs.Laws.States.{rest-not-paused, paused-made, paused-in, waits-in}
 use Rattle.scheduler.proofs.Laws.Testing

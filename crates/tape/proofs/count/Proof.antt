@@ -1,4 +1,3 @@
-use Prim.Native.Nat.{_-_}
 use borrow.Author.Needs.{needs}
 use Rattle.tape.specs.Tapes.{countOf}
 use Rattle.tape.proofs.count.Statement.{statement}

@@ -1,4 +1,3 @@
-use Prim.Native.Nat.{_-_}
 use borrow.Author.Needs.{needs}
 use Rattle.tape.specs.Tapes.{messageCountOf}
 use Rattle.tape.proofs.message_count.Statement.{statement}

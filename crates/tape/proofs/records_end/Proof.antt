@@ -1,5 +1,4 @@
 use mathlib.Core.Path.{refl}
-use Prim.Native.Nat.{_-_}
 use borrow.Author.Needs.{needs}
 use Rattle.tape.specs.Tapes.{recordsEnd}
 use Rattle.tape.proofs.records_end.Statement.{statement}

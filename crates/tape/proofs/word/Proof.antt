@@ -1,5 +1,4 @@
 use mathlib.Core.Path.{sym}
-use Prim.Native.Nat.{_-_}
 use borrow.Author.Needs.{needs}
 use Rattle.tape.specs.Tapes.{wordAt}
 use Rattle.tape.proofs.Laws.Tapes.{word-past}

@@ -1,4 +1,3 @@
-use Prim.Native.Nat.{_-_}
 use borrow.Author.Needs.{needs}
 use Rattle.apachimo.specs.Blocks.{part}
 use Rattle.apachimo.specs.State.{threadOf}

@@ -1,4 +1,3 @@
-use Prim.Native.Nat.{_-_}
 use Rattle.apachimo.specs.Blocks.{flagByte}
 use Rattle.apachimo.proofs.writing.flag_byte.Statement.{statement}
 use Rattle.apachimo.proofs.writing.flag_byte.Tie as tie

@@ -1,4 +1,3 @@
-use Prim.Native.Nat.{_-_}
 use borrow.Author.Tests.{eq-eqb, ne-eqb}
 use Rattle.calls.specs.Refusals.{firstOf}
 use Rattle.calls.proofs.refusal.first.Statement.{statement}

@@ -1,4 +1,3 @@
-use Prim.Native.Nat.{_-_}
 use Rattle.calls.specs.Refusals.{unless}
 use Rattle.calls.proofs.refusal.unless.Statement.{statement}
 use Rattle.calls.proofs.refusal.unless.Tie as tie

@@ -1,4 +1,3 @@
-use Prim.Native.Nat.{_-_}
 use borrow.Author.Needs.{needs}
 use Rattle.kernel.specs.General.{step, unsound, call}
 use Rattle.kernel.proofs.Kernel.call.Statement.{statement}

@@ -1,4 +1,3 @@
-use Prim.Native.Nat.{_-_}
 use borrow.Author.Needs.{needs}
 use Rattle.scheduler.specs.Choice.{rescheduled}
 use Rattle.kernel.specs.Tables.{withScheduler}

@@ -4,7 +4,6 @@ use Prim.Native.Nat.{ℕ, _<_, _≤_, _-_}
 use native.Mathlib.Omega.{arith}
 use borrow.Author.Needs.{needs}
 use lib.ListN.{length, take, getD}
-use mathlib.Core.Path.{_≡_, refl, sym, ap, _∙_}
 use Rattle.lines.specs.Lines.{members}
 use Rattle.lines.proofs.Laws.Lines.{length-members, members-take}
 use Rattle.scheduler.specs.Orders.{woken}

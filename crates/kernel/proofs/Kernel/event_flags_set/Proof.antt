@@ -1,8 +1,6 @@
 use mathlib.Core.Path.{_≡_, sym, ap, _∙_}
-use Prim.Native.Nat.{_-_}
 use borrow.Author.Needs.{needs}
 use borrow.Author.Tests.{eq-eqb, ne-eqb}
-use mathlib.Core.Path.{_≡_, sym, ap, _∙_}
 use Rattle.objects.specs.declared.group.Group.{Group}
 use Rattle.calls.specs.Refusals.{setRefusal}
 use Rattle.kernel.specs.Tables.{groupAt, withScheduler, withGroup}

@@ -1,9 +1,7 @@
 use mathlib.Core.Path.{_≡_, sym, ap, _∙_}
 use mathlib.Core.Logic.{⊎-elim}
-use Prim.Native.Nat.{_-_}
 use borrow.Author.Needs.{needs}
 use lib.ListN.{length}
-use mathlib.Core.Path.{_≡_, sym, ap, _∙_}
 use Rattle.lines.specs.Lines.{members}
 use Rattle.scheduler.specs.Orders.{lineAt}
 use Rattle.scheduler.proofs.Laws.Threads.{length-mapped}
@@ -15,7 +13,6 @@ use Rattle.kernel.specs.Waits.{endEach}
 use Rattle.kernel.specs.Queues.{queuePlace, endQueue}
 use Rattle.kernel.proofs.Laws.Waits.{each-queue}
 use Rattle.kernel.proofs.Laws.Answers.{queue-out}
-use mathlib.Core.Logic.{⊎-elim}
 use Rattle.kernel.proofs.Kernel.queue_ended.Statement.{statement}
 use Rattle.kernel.proofs.Kernel.queue_ended.Tie as tie
 

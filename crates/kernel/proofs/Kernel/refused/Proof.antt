@@ -1,5 +1,4 @@
 use mathlib.Core.Path.{refl}
-use Prim.Native.Nat.{_-_}
 use Rattle.kernel.specs.Answers.{answerOf, refused}
 use Rattle.kernel.proofs.Kernel.refused.Statement.{statement}
 use Rattle.kernel.proofs.Kernel.refused.Tie as tie

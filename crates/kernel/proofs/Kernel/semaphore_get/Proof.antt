@@ -1,7 +1,6 @@
 use borrow.Author.Needs.{needs}
 use mathlib.Core.Path.{_≡_, sym, ap, _∙_}
 use mathlib.Core.Logic.{⊎-elim}
-use Prim.Native.Nat.{_-_}
 use borrow.Author.Tests.{lt-ltb, le-ltb}
 use lib.ListN.{length}
 use Rattle.scheduler.proofs.Laws.Threads.{length-mapped}
@@ -11,7 +10,7 @@ use Rattle.calls.specs.Refusals.{semaphoreGetRefusal}
 use Rattle.kernel.specs.Tables.{semaphoreAt, withScheduler, withHeld, withSemaphore}
 use Rattle.kernel.specs.Answers.{answerOf, refused, carried, answered}
 use Rattle.kernel.specs.Waits.{startWait}
-use Rattle.kernel.specs.Semaphores.{counting, semaphoreGet}
+use Rattle.kernel.specs.Semaphores.{semaphoreGet}
 use Rattle.kernel.proofs.Laws.Answers.{is-refused, is-carried, held-out}
 use Rattle.kernel.proofs.Kernel.semaphore_get.Statement.{statement}
 use Rattle.kernel.proofs.Kernel.semaphore_get.Tie as tie

@@ -1,16 +1,15 @@
 use borrow.Author.Needs.{needs}
 use mathlib.Core.Path.{_≡_, sym, ap, _∙_}
 use mathlib.Core.Logic.{⊎-elim}
-use Prim.Native.Nat.{_-_}
 use borrow.Author.Tests.{lt-ltb, le-ltb}
-use Rattle.scheduler.specs.Orders.{firstAt, woken}
+use Rattle.scheduler.specs.Orders.{firstAt}
 use Rattle.calls.specs.Held.{noWords}
 use Rattle.calls.specs.Statuses.{success}
 use Rattle.calls.specs.Refusals.{semaphoreRefusal}
 use Rattle.kernel.specs.Tables.{semaphoreAt, withScheduler, withHeld, withSemaphore}
 use Rattle.kernel.specs.Answers.{answerOf, refused, carried, answered}
 use Rattle.kernel.specs.Waits.{endWait, oneMore}
-use Rattle.kernel.specs.Semaphores.{semaphorePlace, counting, putOn, semaphorePut}
+use Rattle.kernel.specs.Semaphores.{semaphorePlace, putOn, semaphorePut}
 use Rattle.kernel.proofs.Laws.Answers.{is-refused, is-carried}
 use Rattle.kernel.proofs.Kernel.semaphore_put.Statement.{statement}
 use Rattle.kernel.proofs.Kernel.semaphore_put.Tie as tie

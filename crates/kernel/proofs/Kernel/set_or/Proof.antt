@@ -4,7 +4,6 @@ use Prim.Native.Nat.{ℕ, _<_, _≤_, _-_}
 use native.Mathlib.Omega.{arith}
 use borrow.Author.Needs.{needs}
 use lib.ListN.{length, getD}
-use mathlib.Core.Path.{_≡_, refl, ap, _∙_}
 use Rattle.lines.specs.Lines.{members, lineOf}
 use Rattle.lines.proofs.Laws.Lines.{length-members}
 use Rattle.scheduler.specs.Orders.{lineAt, woken}

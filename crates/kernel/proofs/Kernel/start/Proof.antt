@@ -1,4 +1,3 @@
-use Prim.Native.Nat.{_-_}
 use borrow.Author.Needs.{needs}
 use Rattle.kernel.specs.Tables.{started}
 use Rattle.kernel.proofs.Kernel.start.Statement.{statement}

@@ -1,4 +1,3 @@
-use Prim.Native.Nat.{_-_}
 use borrow.Author.Needs.{needs}
 use Rattle.calls.specs.Calls.{decoded}
 use Rattle.kernel.specs.General.{service, byCaller, byRecord, step}

@@ -1,9 +1,7 @@
 use mathlib.Core.Path.{_≡_, sym, _∙_}
-use Prim.Native.Nat.{_-_}
 use native.Mathlib.Omega.{arith}
 use borrow.Author.Needs.{needs}
 use lib.ListN.{length}
-use mathlib.Core.Path.{_≡_, sym, _∙_}
 use Rattle.scheduler.proofs.Laws.Threads.{length-mapped}
 use Rattle.blocks.specs.Pools.{noPool}
 use Rattle.lines.proofs.Laws.Lists.{getD-any}

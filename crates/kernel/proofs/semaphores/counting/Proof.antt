@@ -1,5 +1,4 @@
 use mathlib.Core.Path.{refl}
-use Prim.Native.Nat.{_-_}
 use Rattle.kernel.specs.Semaphores.{counting}
 use Rattle.kernel.proofs.semaphores.counting.Statement.{statement}
 use Rattle.kernel.proofs.semaphores.counting.Tie as tie

@@ -1,4 +1,3 @@
-use Prim.Native.Nat.{_-_}
 use borrow.Author.Tests.{eq-eqb, ne-eqb}
 use Rattle.kernel.proofs.threads.start_state.Statement.{statement}
 use Rattle.kernel.proofs.threads.start_state.Tie as tie

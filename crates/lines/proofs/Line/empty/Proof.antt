@@ -1,5 +1,4 @@
 use mathlib.Core.Path.{refl}
-use Prim.Native.Nat.{_-_}
 use Rattle.lines.specs.Lines.{pad, lineOf}
 use Rattle.lines.proofs.Line.empty.Statement.{statement}
 use Rattle.lines.proofs.Line.empty.Tie as tie

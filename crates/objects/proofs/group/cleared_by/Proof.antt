@@ -1,4 +1,3 @@
-use Prim.Native.Nat.{_-_}
 use Rattle.objects.specs.Groups.{clearsb, clearOf}
 use Rattle.objects.proofs.group.cleared_by.Statement.{statement}
 use Rattle.objects.proofs.group.cleared_by.Tie as tie

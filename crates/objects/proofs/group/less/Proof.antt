@@ -1,5 +1,4 @@
 use mathlib.Core.Path.{refl}
-use Prim.Native.Nat.{_-_}
 use Rattle.objects.specs.Groups.{lessFlags}
 use Rattle.objects.proofs.group.less.Statement.{statement}
 use Rattle.objects.proofs.group.less.Tie as tie

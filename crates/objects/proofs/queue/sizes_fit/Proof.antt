@@ -1,5 +1,4 @@
 use mathlib.Core.Path.{refl}
-use Prim.Native.Nat.{_-_}
 use borrow.Author.Needs.{needs}
 use Rattle.objects.specs.Queues.{sizesFitb}
 use Rattle.objects.proofs.queue.sizes_fit.Statement.{statement}

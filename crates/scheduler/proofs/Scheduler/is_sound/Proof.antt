@@ -1,14 +1,13 @@
 use mathlib.Core.Path.{_≡_, refl, sym, ap, ap₂, _∙_}
 use mathlib.Core.List.{List}
-use mathlib.Core.Bool.{Bool, true, false, _&&_, and-true, and-false}
-use Prim.Native.Nat.{ℕ, _<_, _≤_, _-_, _+_}
+use mathlib.Core.Bool.{true, _&&_, and-true, and-false}
+use Prim.Native.Nat.{ℕ, _<_, _≤_, _-_}
 use native.Mathlib.Omega.{arith}
 use borrow.Author.Needs.{needs}
 use borrow.Author.Tests.{not-true, not-false}
 use lib.ListN.{length, getD}
 use lib.Dec.{eqb}
 use Rattle.lines.specs.Logic.{allBelow}
-use Rattle.lines.specs.Lists.{count}
 use Rattle.lines.specs.Lines.{members, tally}
 use Rattle.lines.proofs.Laws.Logic.{all-more, all-not}
 use Rattle.lines.proofs.Laws.Lists.{getD-any}
@@ -16,9 +15,8 @@ use Rattle.lines.proofs.Laws.Tallies.{tally-count, tally-below}
 use Rattle.scheduler.specs.declared.thread.Thread.{Thread}
 use Rattle.scheduler.specs.Threads.{noThread}
 use Rattle.scheduler.specs.Orders.{threadAt}
-use Rattle.scheduler.specs.Sound.{soundb}
 use Rattle.scheduler.proofs.Laws.Threads.{length-mapped}
-use Rattle.scheduler.proofs.Laws.Placing.{placedFit, placed, mayRun, sound-parts, placed-read}
+use Rattle.scheduler.proofs.Laws.Placing.{placed, sound-parts, placed-read}
 use Rattle.scheduler.proofs.Scheduler.is_sound.Statement.{statement}
 use Rattle.scheduler.proofs.Scheduler.is_sound.Tie as tie
 

@@ -1,4 +1,3 @@
-use Prim.Native.Nat.{_-_}
 use borrow.Author.Needs.{needs}
 use mathlib.Core.List.{append-nil}
 use Rattle.lines.specs.Lists.{without, toEnd, toFront}

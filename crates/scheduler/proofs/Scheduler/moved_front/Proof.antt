@@ -1,4 +1,3 @@
-use Prim.Native.Nat.{_-_}
 use borrow.Author.Needs.{needs}
 use Rattle.lines.specs.Lists.{without, toEnd, toFront}
 use Rattle.scheduler.specs.Orders.{withThread, withOrder, movedFront}

@@ -1,4 +1,3 @@
-use Prim.Native.Nat.{_-_}
 use borrow.Author.Needs.{needs}
 use Rattle.waiting.specs.Fit.{groupWaitb}
 use Rattle.waiting.proofs.fit.group_waits.Statement.{statement}

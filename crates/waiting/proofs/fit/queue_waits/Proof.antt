@@ -1,4 +1,3 @@
-use Prim.Native.Nat.{_-_}
 use borrow.Author.Needs.{needs}
 use Rattle.waiting.specs.Fit.{queueWaitb}
 use Rattle.waiting.proofs.fit.queue_waits.Statement.{statement}

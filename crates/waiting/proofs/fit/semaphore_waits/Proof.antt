@@ -1,5 +1,4 @@
 use mathlib.Core.Path.{refl}
-use Prim.Native.Nat.{_-_}
 use Rattle.waiting.specs.Fit.{semaphoreWaitb}
 use Rattle.waiting.proofs.fit.semaphore_waits.Statement.{statement}
 use Rattle.waiting.proofs.fit.semaphore_waits.Tie as tie

@@ -1,5 +1,4 @@
 use mathlib.Core.Path.{refl}
-use Prim.Native.Nat.{_-_}
 use Rattle.waiting.specs.Fit.{waitsOnb}
 use Rattle.waiting.proofs.fit.waits_on.Statement.{statement}
 use Rattle.waiting.proofs.fit.waits_on.Tie as tie

@@ -1,4 +1,3 @@
-use Prim.Native.Nat.{_-_}
 use borrow.Author.Tests.{eq-eqb, ne-eqb}
 use Rattle.waiting.specs.Ticks.{timeoutStatus}
 use Rattle.waiting.proofs.ticks.timeout_status.Statement.{statement}

@@ -1,5 +1,4 @@
 use mathlib.Core.Path.{refl}
-use Prim.Native.Nat.{_-_}
 use Rattle.waiting.specs.Ticks.{withTicks}
 use Rattle.waiting.proofs.ticks.with_ticks.Statement.{statement}
 use Rattle.waiting.proofs.ticks.with_ticks.Tie as tie

@@ -1,5 +1,4 @@
 use mathlib.Core.Path.{refl}
-use Prim.Native.Nat.{_-_}
 use Rattle.calls.specs.Held.{holding}
 use Rattle.calls.proofs.held.Held.of.Statement.{statement}
 use Rattle.calls.proofs.held.Held.of.Tie as tie

@@ -1,5 +1,4 @@
 use mathlib.Core.Path.{refl}
-use Prim.Native.Nat.{_-_}
 use Rattle.objects.specs.Groups.{groupWith}
 use Rattle.objects.proofs.group.Group.of.Statement.{statement}
 use Rattle.objects.proofs.group.Group.of.Tie as tie

@@ -1,4 +1,3 @@
-use Prim.Native.Nat.{_-_}
 use borrow.Author.Needs.{needs}
 use Rattle.objects.specs.Queues.{withSent, leftPast}
 use Rattle.objects.proofs.queue.Queue.left_past.Statement.{statement}

@@ -1,5 +1,4 @@
 use mathlib.Core.Path.{refl}
-use Prim.Native.Nat.{_-_}
 use Rattle.scheduler.specs.Threads.{created}
 use Rattle.scheduler.proofs.thread.Thread.created.Statement.{statement}
 use Rattle.scheduler.proofs.thread.Thread.created.Tie as tie

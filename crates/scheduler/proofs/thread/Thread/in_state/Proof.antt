@@ -1,5 +1,4 @@
 use mathlib.Core.Path.{refl}
-use Prim.Native.Nat.{_-_}
 use Rattle.scheduler.specs.Threads.{inState}
 use Rattle.scheduler.proofs.thread.Thread.in_state.Statement.{statement}
 use Rattle.scheduler.proofs.thread.Thread.in_state.Tie as tie

@@ -1,5 +1,4 @@
 use mathlib.Core.Path.{refl}
-use Prim.Native.Nat.{_-_}
 use Rattle.scheduler.specs.Threads.{sleepsb, waitsb, pausedb}
 use Rattle.scheduler.proofs.thread.Thread.is_paused.Statement.{statement}
 use Rattle.scheduler.proofs.thread.Thread.is_paused.Tie as tie

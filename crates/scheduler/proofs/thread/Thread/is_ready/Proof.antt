@@ -1,5 +1,4 @@
 use mathlib.Core.Path.{refl}
-use Prim.Native.Nat.{_-_}
 use Rattle.scheduler.specs.Threads.{readyb}
 use Rattle.scheduler.proofs.thread.Thread.is_ready.Statement.{statement}
 use Rattle.scheduler.proofs.thread.Thread.is_ready.Tie as tie

@@ -1,5 +1,4 @@
 use mathlib.Core.Path.{refl}
-use Prim.Native.Nat.{_-_}
 use Rattle.scheduler.specs.Threads.{waitsb}
 use Rattle.scheduler.proofs.thread.Thread.is_waiting.Statement.{statement}
 use Rattle.scheduler.proofs.thread.Thread.is_waiting.Tie as tie

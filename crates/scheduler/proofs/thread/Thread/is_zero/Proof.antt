@@ -1,5 +1,4 @@
 use mathlib.Core.Path.{refl}
-use Prim.Native.Nat.{_-_}
 use Rattle.scheduler.specs.Sound.{zerob}
 use Rattle.scheduler.proofs.thread.Thread.is_zero.Statement.{statement}
 use Rattle.scheduler.proofs.thread.Thread.is_zero.Tie as tie

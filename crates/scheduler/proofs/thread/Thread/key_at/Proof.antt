@@ -1,4 +1,3 @@
-use Prim.Native.Nat.{_-_}
 use borrow.Author.Needs.{needs}
 use Rattle.scheduler.specs.Orders.{keyAt}
 use Rattle.scheduler.proofs.thread.Thread.key_at.Statement.{statement}

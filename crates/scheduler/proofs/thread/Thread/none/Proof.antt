@@ -1,5 +1,4 @@
 use mathlib.Core.Path.{refl}
-use Prim.Native.Nat.{_-_}
 use Rattle.scheduler.specs.Threads.{noThread}
 use Rattle.scheduler.proofs.thread.Thread.none.Statement.{statement}
 use Rattle.scheduler.proofs.thread.Thread.none.Tie as tie

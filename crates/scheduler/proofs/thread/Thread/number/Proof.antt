@@ -1,4 +1,3 @@
-use Prim.Native.Nat.{_-_}
 use borrow.Author.Tests.{eq-eqb, ne-eqb}
 use Rattle.scheduler.specs.Threads.{numberOf}
 use Rattle.scheduler.proofs.thread.Thread.number.Statement.{statement}

@@ -1,5 +1,4 @@
 use mathlib.Core.Path.{refl}
-use Prim.Native.Nat.{_-_}
 use Rattle.scheduler.specs.Threads.{uncreated}
 use Rattle.scheduler.proofs.thread.Thread.uncreated.Statement.{statement}
 use Rattle.scheduler.proofs.thread.Thread.uncreated.Tie as tie

@@ -1,5 +1,4 @@
 use mathlib.Core.Path.{refl}
-use Prim.Native.Nat.{_-_}
 use Rattle.scheduler.specs.Changes.{withLevels}
 use Rattle.scheduler.proofs.thread.Thread.with_levels.Statement.{statement}
 use Rattle.scheduler.proofs.thread.Thread.with_levels.Tie as tie

@@ -1,5 +1,4 @@
 use mathlib.Core.Path.{refl}
-use Prim.Native.Nat.{_-_}
 use Rattle.scheduler.specs.Threads.{withSuspension}
 use Rattle.scheduler.proofs.thread.Thread.with_suspension.Statement.{statement}
 use Rattle.scheduler.proofs.thread.Thread.with_suspension.Tie as tie
