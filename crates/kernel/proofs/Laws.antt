@@ -11,4 +11,5 @@ pub mod KeepsQueues
 pub mod KeepsGroups
 pub mod KeepsPools
 pub mod Claims
+pub mod Records
 pub mod Runs

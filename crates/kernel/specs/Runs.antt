@@ -1,10 +1,14 @@
 -- Runs of call tapes: the records one after the other, each on the tables that the last handed back.
 use mathlib.Core.List.{List, [], _∷_}
-use mathlib.Core.Bool.{_||_, not}
+use mathlib.Core.Bool.{_&&_, _||_, not}
 use Prim.Native.Nat.{ℕ, _+_, min}
 use lib.ListN.{take}
+use lib.Dec.{eqb, ltb}
 use Rattle.lines.specs.Logic.{if_then_else_}
+use Rattle.calls.specs.Calls.{thread}
 use Rattle.calls.specs.Statuses as Statuses
+use Rattle.calls.specs.declared.call.Decoded.{Decoded}
+use Rattle.calls.specs.declared.call.Decoded.the-variants.{Known, Unknown}
 use Rattle.tape.specs.declared.Record.{Record}
 use Rattle.tape.specs.declared.replies.Reply.{Reply}
 use Rattle.tape.specs.Replies.{replied}
@@ -31,6 +35,12 @@ ran k bytes most =
     if refusedb bytes
     then record { status = Statuses.tapeRefused; carried = 0; kernel = k }
     else record { status = if soundb k then Statuses.success else Statuses.tablesUnsound; carried = min most (countOf bytes); kernel = afterRecords k (messagesOf bytes) (take most (recordsOf bytes)) }
+
+-- ---- records
+-- what comes of a record before any service: the number of its call, or the status that refuses it, as General's byRecord and byCaller have it
+unfoldable pub admittedAs : ℕ → ℕ → ℕ → Decoded → ℕ
+admittedAs number caller running Unknown = Statuses.unknownCall
+admittedAs number caller running (Known call) = if eqb caller thread && not (ltb running 32) then Statuses.nobodyRuns else number
 
 -- ---- replies
 -- a call's result without the tables

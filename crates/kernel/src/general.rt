@@ -1,7 +1,6 @@
 // The general call: a number, a caller and four arguments.
 ghost use mathlib.Core.Path.{_≡_};
-ghost use Rattle.kernel.specs.Answers.{answerOf};
-ghost use Rattle.kernel.specs.General.{step, call};
+ghost use Rattle.kernel.specs.General.{call};
 use super::Answer;
 use super::Kernel;
 use calls::call::Call;
@@ -15,9 +14,9 @@ use lines::NOBODY;
 use lines::ThreadId;
 
 impl Kernel {
-    // One call on tables that were tested before. Decoding, the test for a running thread and the choice of the service are one function: each
+    // One call. `messages` are the lent words that a send takes its message from. Unsound tables are refused. All of it is one function: each
     // further one that takes and returns the tables would copy them twice more.
-    pub(crate) fn step(
+    pub fn call(
         self,
         number: u32,
         caller: u32,
@@ -27,8 +26,17 @@ impl Kernel {
         d: u32,
         messages: &[u32],
     ) -> Answer
-        ensures { λ r. ⌜ r ≡ answerOf (step self number caller a b c d (now (messages .entry))) ⌝ }
+        ensures { λ r. ⌜ r ≡ call self number caller a b c d (now (messages .entry)) ⌝ }
     {
+        if !self.is_sound() {
+            return Answer {
+                status: TABLES_UNSOUND,
+                words: [0; 16],
+                next: ThreadId(NOBODY),
+                ended: 0,
+                kernel: self,
+            };
+        }
         let decoded = decode(number, caller, a, b, c, d);
         let Decoded::Known(call) = decoded else {
             return self.refused(UNKNOWN_CALL);
@@ -117,31 +125,6 @@ impl Kernel {
             Call::BlockPoolPrioritize(n) => self.block_pool_prioritize(n),
             Call::ThreadStateRead(t) => self.thread_state_read(t),
             Call::ThreadWordsRead(t) => self.thread_words_read(t),
-        }
-    }
-
-    // One call. `messages` are the lent words that a send takes its message from. Unsound tables are refused.
-    pub fn call(
-        self,
-        number: u32,
-        caller: u32,
-        a: u32,
-        b: u32,
-        c: u32,
-        d: u32,
-        messages: &[u32],
-    ) -> Answer
-        ensures { λ r. ⌜ r ≡ call self number caller a b c d (now (messages .entry)) ⌝ }
-    {
-        if self.is_sound() {
-            return self.step(number, caller, a, b, c, d, messages);
-        }
-        Answer {
-            status: TABLES_UNSOUND,
-            words: [0; 16],
-            next: ThreadId(NOBODY),
-            ended: 0,
-            kernel: self,
         }
     }
 }
