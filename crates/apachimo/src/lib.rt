@@ -156,8 +156,7 @@ pub extern "C" fn apachimo_call(
         ended: answer.ended,
     };
     if is_done(answer.status) {
-        let after = answer.kernel;
-        writing::put_kernel(state, after);
+        writing::put_answer(state, answer);
     }
     reply
 }

@@ -6,7 +6,11 @@ ghost use Rattle.apachimo.specs.State.{stateBytes};
 ghost use Rattle.apachimo.specs.Bytes.{threadBytes, heldBytes, flaggedBytes, semaphoreBytes, queueBytes, groupBytes, poolBytes, schedulerBytes, objectBytes, bytesOf};
 use blocks::pool::Pool;
 use calls::held::Held;
+use calls::status::SUCCESS;
+use kernel::Answer;
 use kernel::Kernel;
+use lines::NOBODY;
+use lines::ThreadId;
 use objects::group::Group;
 use objects::queue::Queue;
 use objects::semaphore::Semaphore;
@@ -264,11 +268,12 @@ fn put_objects(
     put_word(&mut b[2488..2492], clock);
 }
 
-// Writes tables into a block.
-pub(crate) fn put_kernel(b: &mut [u8], k: Kernel)
+// Writes the tables of an answer into a block. It takes the answer whole: tables that are taken out of it are copied.
+pub(crate) fn put_answer(b: &mut [u8], a: Answer)
     requires { ⌜ length (now b) ≡ stateBytes ⌝ }
-    ensures { λ _. ⌜ now (b .exit) ≡ bytesOf k ⌝ }
+    ensures { λ _. ⌜ now (b .exit) ≡ bytesOf (a .kernel) ⌝ }
 {
+    let k = a.kernel;
     let scheduler = k.scheduler;
     let held = k.held;
     let semaphores = k.semaphores;
@@ -284,5 +289,22 @@ pub(crate) fn put_kernel(b: &mut [u8], k: Kernel)
         groups,
         pools,
         k.clock,
+    );
+}
+
+// Writes tables into a block.
+pub(crate) fn put_kernel(b: &mut [u8], k: Kernel)
+    requires { ⌜ length (now b) ≡ stateBytes ⌝ }
+    ensures { λ _. ⌜ now (b .exit) ≡ bytesOf k ⌝ }
+{
+    put_answer(
+        b,
+        Answer {
+            status: SUCCESS,
+            words: [0; 16],
+            next: ThreadId(NOBODY),
+            ended: 0,
+            kernel: k,
+        },
     );
 }

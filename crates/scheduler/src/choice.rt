@@ -57,24 +57,31 @@ impl Scheduler {
     }
 
     // The runner, which another thread replaces, is marked where its threshold is below its priority.
-    fn replaced(self) -> Scheduler
+    fn replaced(mut self) -> Scheduler
         ensures { λ r. ⌜ r ≡ replaced self ⌝ }
     {
         let r = self.running;
-        let mut th = self.thread_at(r);
-        th.marked = th.threshold < th.priority;
-        self.with_thread(r, th)
+        let i = r.0 as usize;
+        if i < 32 {
+            let mut th = self.threads[i];
+            th.marked = th.threshold < th.priority;
+            self.threads[i] = th;
+        }
+        self
     }
 
     // Thread `t` runs, and its mark ends.
-    fn ran(self, t: ThreadId) -> Scheduler
+    fn ran(mut self, t: ThreadId) -> Scheduler
         ensures { λ r. ⌜ r ≡ ran self (t .0) ⌝ }
     {
-        let mut th = self.thread_at(t);
-        th.marked = false;
-        let mut s = self.with_thread(t, th);
-        s.running = t;
-        s
+        let i = t.0 as usize;
+        if i < 32 {
+            let mut th = self.threads[i];
+            th.marked = false;
+            self.threads[i] = th;
+        }
+        self.running = t;
+        self
     }
 
     // The choice after a call.

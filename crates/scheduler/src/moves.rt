@@ -8,35 +8,41 @@ use lines::ThreadId;
 
 impl Scheduler {
     // Thread `t` with another record, at the end of its order, or in none.
-    pub fn moved(self, t: ThreadId, th: Thread) -> Scheduler
+    pub fn moved(mut self, t: ThreadId, th: Thread) -> Scheduler
         ensures { λ r. ⌜ r ≡ moved self (t .0) th ⌝ }
     {
         let o = self.order;
-        let mut s = self.with_thread(t, th);
+        let i = t.0 as usize;
+        if i < 32 {
+            self.threads[i] = th;
+        }
         if th.is_standing() {
             let l = o.joined_end(t);
-            s.order = l;
+            self.order = l;
         } else {
             let l = o.without(t);
-            s.order = l;
+            self.order = l;
         }
-        s
+        self
     }
 
     // Thread `t` with another record, at the front of its order, or in none.
-    pub fn moved_front(self, t: ThreadId, th: Thread) -> Scheduler
+    pub fn moved_front(mut self, t: ThreadId, th: Thread) -> Scheduler
         ensures { λ r. ⌜ r ≡ movedFront self (t .0) th ⌝ }
     {
         let o = self.order;
-        let mut s = self.with_thread(t, th);
+        let i = t.0 as usize;
+        if i < 32 {
+            self.threads[i] = th;
+        }
         if th.is_standing() {
             let l = o.joined_front(t);
-            s.order = l;
+            self.order = l;
         } else {
             let l = o.without(t);
-            s.order = l;
+            self.order = l;
         }
-        s
+        self
     }
 
     // Thread `t` with another record, at the front of its order or at the end.

@@ -5,7 +5,7 @@ use mathlib.Core.Bool.{Bool, true, false, _&&_}
 use Prim.Native.Nat.{ℕ, _≤_, _<_}
 use native.Mathlib.Omega.{arith}
 use lib.ListN.{length, length-set}
-use lib.Seq.{getD-set-same, getD-set-other}
+use lib.Seq.{getD-set-same, getD-set-other, set-out}
 use lib.Dec.{ltb}
 use borrow.Author.Tests.{ltb-true, ltb-false}
 use Rattle.lines.specs.Logic.{oneIf}
@@ -22,6 +22,12 @@ use Rattle.scheduler.specs.Threads.{noThread, standsb, placedb}
 use Rattle.scheduler.specs.Orders.{threadAt, priorityAt, lineAt, withThread, withOrder, moved, movedFront, keyAt, prioritisedAt}
 use Rattle.scheduler.specs.Sound.{fitb, Steady}
 use Rattle.scheduler.proofs.Laws.Threads.{none-at, none-stands, placed-stands, other-place}
+
+-- ---- records
+-- a record past the table is not stored
+pub thread-out : (s : Scheduler) (t : ℕ) (th : Thread) → length (s .threads) ≤ t → withThread s t th ≡ s
+unfolding withThread
+thread-out s t th h = rw (set-out (s .threads) t th h)
 
 -- ---- steady tables
 module _ (s : Scheduler) (S : Steady s) where

@@ -1,18 +1,52 @@
+use mathlib.Core.Logic.{⊎-elim}
+use mathlib.Core.Path.{_≡_, sym, ap, _∙_}
+use mathlib.Core.Bool.{false}
+use Prim.Native.Nat.{_<_, _≤_}
+use native.Mathlib.Omega.{arith}
 use borrow.Author.Needs.{needs}
-use Rattle.scheduler.specs.Orders.{withThread, withRunner}
+use lib.ListN.{length}
+use Rattle.lines.proofs.Laws.Lists.{getD-any}
+use Rattle.scheduler.specs.declared.Scheduler.{Scheduler}
+use Rattle.scheduler.specs.declared.thread.Thread.{Thread}
+use Rattle.scheduler.specs.Threads.{noThread}
+use Rattle.scheduler.specs.Orders.{threadAt, withThread, withRunner}
 use Rattle.scheduler.specs.Choice.{withMark, ran}
+use Rattle.scheduler.proofs.Laws.Threads.{length-mapped}
+use Rattle.scheduler.proofs.Laws.Orders.{thread-out}
 use Rattle.scheduler.proofs.Scheduler.ran.Statement.{statement}
 use Rattle.scheduler.proofs.Scheduler.ran.Tie as tie
 
-thread-at-requires : tie.Need-thread-at-requires
-thread-at-requires c κs = search needs
+cast-i : tie.Need-cast-i
+cast-i c = search needs
 
-with-thread-requires : tie.Need-with-thread-requires
-with-thread-requires c κs = search needs
+mul-th : tie.Need-mul-th
+mul-th c = search needs
+
+element-copy-out-th : tie.Need-element-copy-out-th
+element-copy-out-th c = search needs
+
+mul-th-2 : tie.Need-mul-th-2
+mul-th-2 c = search needs
+
+element-set-from-th : tie.Need-element-set-from-th
+element-set-from-th c = search needs
 
 returns : tie.Need-returns
-unfolding ran withRunner withThread withMark
-returns c = rw (c .with-thread .ensures, ← c .before .thread-at .ensures)
+unfolding ran withRunner withThread withMark threadAt
+returns c =
+    let a = c .before .before .args in
+    let e : length (a .t1 .threads) ≡ 32 = search length-mapped in
+    let z : c .if1 .self ≡ withThread (a .t1) (a .t .0) (withMark false (threadAt (a .t1) (a .t .0))) =
+    ⊎-elim
+    (λ w.
+    let h : a .t .0 < length (a .t1 .threads) = (let l = w .0 .taken in omega (arith, l)) in
+    w .2 ∙ ap (λ (th : Thread). withThread (a .t1) (a .t .0) (withMark false th)) (getD-any (a .t1 .threads) (a .t .0) _ noThread h))
+    (λ w.
+    let h : length (a .t1 .threads) ≤ a .t .0 = (let l = w .0 .left in omega (arith, l)) in
+    w .1 ∙ sym (thread-out (a .t1) (a .t .0) (withMark false (threadAt (a .t1) (a .t .0))) h))
+    (c .if1 .came) in
+    ap (λ (s : Scheduler). withRunner s (a .t .0)) z
 
 pub ran-spec : {M : Type 1} → statement M
-ran-spec = tie.close (tie.spec thread-at-requires with-thread-requires returns)
+ran-spec =
+    tie.close (tie.spec cast-i mul-th element-copy-out-th mul-th-2 element-set-from-th returns)

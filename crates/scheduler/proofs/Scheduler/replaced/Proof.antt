@@ -1,17 +1,51 @@
+use mathlib.Core.Path.{_≡_, sym, ap}
+use Prim.Native.Nat.{_<_, _≤_}
+use native.Mathlib.Omega.{arith}
+use lib.Dec.{ltb}
 use borrow.Author.Needs.{needs}
+use lib.ListN.{length}
+use Rattle.lines.proofs.Laws.Lists.{getD-any}
+use Rattle.scheduler.specs.declared.thread.Thread.{Thread}
+use Rattle.scheduler.specs.Threads.{noThread}
+use Rattle.scheduler.specs.Orders.{threadAt, withThread}
 use Rattle.scheduler.specs.Choice.{withMark, replaced}
+use Rattle.scheduler.proofs.Laws.Threads.{length-mapped}
+use Rattle.scheduler.proofs.Laws.Orders.{thread-out}
 use Rattle.scheduler.proofs.Scheduler.replaced.Statement.{statement}
 use Rattle.scheduler.proofs.Scheduler.replaced.Tie as tie
 
-thread-at-requires : tie.Need-thread-at-requires
-thread-at-requires c κs = search needs
+cast-i : tie.Need-cast-i
+cast-i c = search needs
 
-with-thread-requires : tie.Need-with-thread-requires
-with-thread-requires c κs = search needs
+mul-th : tie.Need-mul-th
+mul-th c = search needs
+
+element-copy-out-th : tie.Need-element-copy-out-th
+element-copy-out-th c = search needs
+
+mul-th-2 : tie.Need-mul-th-2
+mul-th-2 c = search needs
+
+element-set-from-th : tie.Need-element-set-from-th
+element-set-from-th c = search needs
 
 returns : tie.Need-returns
-unfolding replaced withMark
-returns c = rw (c .with-thread .ensures, c .before .before .thread-at .ensures)
+unfolding replaced withThread withMark threadAt
+returns c =
+    let a = c .before .before .before .before .before .args in
+    let e : length (a .t1 .threads) ≡ 32 = search length-mapped in
+    let h : a .t1 .running .0 < length (a .t1 .threads) = omega arith in
+    ap (λ (th : Thread). withThread (a .t1) (a .t1 .running .0) (withMark (ltb (th .threshold) (th .priority)) th)) (getD-any (a .t1 .threads) (a .t1 .running .0) _ noThread h)
+
+returns-2 : tie.Need-returns-2
+unfolding replaced
+returns-2 c =
+    let a = c .before .before .before .args in
+    let e : length (a .t1 .threads) ≡ 32 = search length-mapped in
+    let h : length (a .t1 .threads) ≤ a .t1 .running .0 = omega arith in
+    sym (thread-out (a .t1) (a .t1 .running .0) _ h)
 
 pub replaced-spec : {M : Type 1} → statement M
-replaced-spec = tie.close (tie.spec thread-at-requires with-thread-requires returns)
+replaced-spec =
+    tie.close
+    (tie.spec cast-i mul-th element-copy-out-th mul-th-2 element-set-from-th returns returns-2)

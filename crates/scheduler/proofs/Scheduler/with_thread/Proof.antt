@@ -1,11 +1,11 @@
-use mathlib.Core.Path.{_≡_, refl}
+use mathlib.Core.Path.{_≡_, refl, sym}
 use Prim.Native.Nat.{_≤_}
 use native.Mathlib.Omega.{arith}
 use borrow.Author.Needs.{needs}
 use lib.ListN.{length}
-use lib.Seq.{set-out}
 use Rattle.scheduler.specs.Orders.{withThread}
 use Rattle.scheduler.proofs.Laws.Threads.{length-mapped}
+use Rattle.scheduler.proofs.Laws.Orders.{thread-out}
 use Rattle.scheduler.proofs.Scheduler.with_thread.Statement.{statement}
 use Rattle.scheduler.proofs.Scheduler.with_thread.Tie as tie
 
@@ -13,12 +13,11 @@ cast-i : tie.Need-cast-i
 cast-i c = search needs
 
 returns : tie.Need-returns
-unfolding withThread
 returns c =
     let a = c .before .before .args in
     let e : length (a .self .threads) ≡ 32 = search length-mapped in
     let h : length (a .self .threads) ≤ a .t .0 = omega arith in
-    rw (set-out (a .self .threads) (a .t .0) (a .th) h)
+    sym (thread-out (a .self) (a .t .0) (a .th) h)
 
 mul-th : tie.Need-mul-th
 mul-th c = search needs
