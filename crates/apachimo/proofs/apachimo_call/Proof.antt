@@ -31,14 +31,14 @@ kernel-of-requires c κs = block-sized (c .before .before .before .before .befor
 call-requires : tie.Need-call-requires
 call-requires c κs = search needs
 
-cast-t21 : tie.Need-cast-t21
-cast-t21 c = search needs
+cast-t20 : tie.Need-cast-t20
+cast-t20 c = search needs
 
 is-done-requires : tie.Need-is-done-requires
 is-done-requires c κs = search needs
 
-put-kernel-requires : tie.Need-put-kernel-requires
-put-kernel-requires c κs = block-sized (c .before .before .before .before .before .before .before .before .before .before .before .before .before .before .before .args .state .now) (sym (c .before .before .before .before .before .before .before .before .before .before .before .block-refusal .ensures) ∙ c .before .before .before .before .before .before .before .before .before .before .if1 .left)
+put-answer-requires : tie.Need-put-answer-requires
+put-answer-requires c κs = block-sized (c .before .before .before .before .before .before .before .before .before .before .before .before .before .before .args .state .now) (sym (c .before .before .before .before .before .before .before .before .before .before .block-refusal .ensures) ∙ c .before .before .before .before .before .before .before .before .before .if1 .left)
 
 same-length-2 : tie.Need-same-length-2
 same-length-2 c = search needs
@@ -46,11 +46,10 @@ same-length-2 c = search needs
 returns-2 : tie.Need-returns-2
 unfolding callReply callBlock replyOf
 returns-2 c =
-    let a = c .before .before .before .before .before .before .before .before .before .before .before .before .before .before .before .before .before .before .args in
-    let b = c .before .before .before .before .before .before .before .before .before .before .before .before .before .before .before .before .before .before .args .state .now in
-    let e = c .before .before .before .before .before .before .before .before .before .before .call .ensures ∙ ap (λ (k : Kernel). call k (a .number) (a .caller) (a .a) (a .b) (a .c) (a .d) (a .messages .now)) (c .before .before .before .before .before .before .before .before .before .before .before .kernel-of .ensures) in
-    let t = sym (ap (λ (x : Answer). doneb (x .status)) e) ∙ sym (c .before .before .before .before .before .before .is-done .ensures) ∙ c .before .before .before .before .before .if2 .taken in
-    rw (← c .before .before .before .before .before .before .before .before .before .before .before .before .before .before .block-refusal .ensures, eq-eqb (c .before .before .before .before .before .before .before .before .before .before .before .before .before .before .block-refusal .result) 0 (c .before .before .before .before .before .before .before .before .before .before .before .before .before .if1 .left), t) (ap replyOf e, c .before .before .put-kernel .ensures ∙ ap (λ (x : Answer). bytesOf (x .kernel)) e)
+    let a = c .before .before .before .before .before .before .before .before .before .before .before .before .before .before .before .before .before .args in
+    let e = c .before .before .before .before .before .before .before .before .before .call .ensures ∙ ap (λ (k : Kernel). call k (a .number) (a .caller) (a .a) (a .b) (a .c) (a .d) (a .messages .now)) (c .before .before .before .before .before .before .before .before .before .before .kernel-of .ensures) in
+    let t = sym (ap (λ (x : Answer). doneb (x .status)) e) ∙ sym (c .before .before .before .before .before .is-done .ensures) ∙ c .before .before .before .before .if2 .taken in
+    rw (← c .before .before .before .before .before .before .before .before .before .before .before .before .before .block-refusal .ensures, eq-eqb (c .before .before .before .before .before .before .before .before .before .before .before .before .before .block-refusal .result) 0 (c .before .before .before .before .before .before .before .before .before .before .before .before .if1 .left), t) (ap replyOf e, c .before .before .put-answer .ensures ∙ ap (λ (x : Answer). bytesOf (x .kernel)) e)
 
 same-length-3 : tie.Need-same-length-3
 same-length-3 c = search needs
@@ -59,7 +58,6 @@ returns-3 : tie.Need-returns-3
 unfolding callReply callBlock replyOf
 returns-3 c =
     let a = c .before .before .before .before .before .before .before .before .before .before .before .before .before .args in
-    let b = c .before .before .before .before .before .before .before .before .before .before .before .before .before .args .state .now in
     let e = c .before .before .before .before .before .call .ensures ∙ ap (λ (k : Kernel). call k (a .number) (a .caller) (a .a) (a .b) (a .c) (a .d) (a .messages .now)) (c .before .before .before .before .before .before .kernel-of .ensures) in
     let t = sym (ap (λ (x : Answer). doneb (x .status)) e) ∙ sym (c .before .is-done .ensures) ∙ c .if2 .left in
     rw (← c .before .before .before .before .before .before .before .before .before .block-refusal .ensures, eq-eqb (c .before .before .before .before .before .before .before .before .before .block-refusal .result) 0 (c .before .before .before .before .before .before .before .before .if1 .left), t) (ap replyOf e, refl)
@@ -74,9 +72,9 @@ apachimo-call-spec =
     returns
     kernel-of-requires
     call-requires
-    cast-t21
+    cast-t20
     is-done-requires
-    put-kernel-requires
+    put-answer-requires
     same-length-2
     returns-2
     same-length-3
