@@ -14,6 +14,7 @@ use calls::refusal;
 use calls::status::DELETED;
 use calls::status::SUCCESS;
 use calls::status::WAITING;
+use lines::ThreadId;
 use matching::woken;
 use objects::group::Group;
 use objects::group::GroupId;
@@ -82,7 +83,8 @@ impl Kernel {
         self.ended_each(line, DELETED, [0; 16])
     }
 
-    // Whoever waits for flags that are now set is woken with them; clears are taken off afterwards.
+    // Whoever waits for flags that are now set is woken with them; clears are taken off afterwards. The waits end here, since
+    // `ended_each` would copy the tables twice more, and flags are set often.
     fn set_or(mut self, n: GroupId, flags: u32) -> Answer
         ensures { λ r. ⌜ r ≡ answerOf (setOr self (n .0) flags) ⌝ }
     {
@@ -95,12 +97,26 @@ impl Kernel {
             options[t] = h.option;
             t += 1;
         }
-        let s = self.scheduler;
+        let mut s = self.scheduler;
         let met = woken(s.line_at(place(n)), flags, requests, options);
         let all = self.groups;
         let changed = groups_with(all, n, Group::of(less(flags, met.clears)));
         self.groups = changed;
-        self.ended_each(met.line, SUCCESS, two_words(flags, 0))
+        let line = met.line;
+        let ids = line.ids;
+        let ended = line.size() as usize;
+        let h = Held::of(SUCCESS, two_words(flags, 0));
+        let mut i: usize = 0;
+        while i < ended {
+            let x = ids[i];
+            let u = x as usize;
+            i += 1;
+            s = s.woken(ThreadId(x));
+            if u < 32 {
+                self.held[u] = h;
+            }
+        }
+        self.carried(s, SUCCESS, [0; 16], ended as u32)
     }
 
     pub(crate) fn event_flags_set(mut self, n: GroupId, flags: u32, option: u32) -> Answer

@@ -1,11 +1,12 @@
-use mathlib.Core.Path.{_≡_, refl, ap, _∙_}
+use mathlib.Core.Path.{_≡_, refl, ap, _∙_, sym}
+use mathlib.Core.Bool.{false}
 use mathlib.Core.List.{List}
 use Prim.Native.Nat.{ℕ, _<_, _≤_, _-_}
 use native.Mathlib.Omega.{arith}
 use borrow.Author.Needs.{needs}
-use lib.ListN.{length, getD}
+use lib.ListN.{length, getD, length-set, take}
 use Rattle.lines.specs.Lines.{members, lineOf}
-use Rattle.lines.proofs.Laws.Lines.{length-members}
+use Rattle.lines.proofs.Laws.Lines.{length-members, length-pad, members-take}
 use Rattle.scheduler.specs.Orders.{lineAt, woken}
 use Rattle.scheduler.proofs.Laws.Threads.{length-mapped}
 use Rattle.objects.specs.Groups.{groupWith, lessFlags}
@@ -13,17 +14,17 @@ use Rattle.calls.specs.declared.held.Held.{Held}
 use Rattle.calls.specs.Held.{noWords, oneWord, holding, noHeld}
 use Rattle.matching.specs.Matching.{wokenOf, clearsOf}
 use Rattle.kernel.specs.declared.Kernel.{Kernel}
-use Rattle.kernel.specs.Tables.{heldAt, withGroup}
-use Rattle.kernel.specs.Answers.{answerOf, carried}
+use Rattle.kernel.specs.Tables.{heldAt, withGroup, withScheduler, withHeld}
+use Rattle.kernel.specs.Answers.{answerOf, carried, answered}
 use Rattle.kernel.specs.Groups.{groupPlace, wokenBy, clearsBy, setOr}
-use Rattle.kernel.proofs.Laws.Waits.{each-group}
-use Rattle.kernel.proofs.Laws.Groups.{table-all, clears-by, woken-members}
+use Rattle.kernel.proofs.Laws.Waits.{each-group, each-more}
+use Rattle.kernel.proofs.Laws.Groups.{table-all, clears-by, woken-members, table-more}
 use Rattle.lines.proofs.Laws.Lists.{getD-any}
-use lib.ListN.{length-set}
 use native.Mathlib.Nat.{not-suc-le-zero}
 use Rattle.lines.specs.declared.Line.{Line}
-use Rattle.lines.proofs.Laws.Lines.{length-pad}
-use Rattle.kernel.proofs.Laws.Groups.{table-more}
+use Rattle.scheduler.specs.Choice.{rescheduled}
+use Rattle.kernel.specs.Waits.{endWait, endEach}
+use Rattle.kernel.proofs.Laws.Answers.{held-out}
 use Rattle.kernel.proofs.Kernel.set_or.Statement.{statement}
 use Rattle.kernel.proofs.Kernel.set_or.Tie as tie
 
@@ -33,31 +34,37 @@ Inv-loop n flags self requests₀ options₀ t₀ requests options t = (t ≤ 32
 abbrev μ-loop : tie.MeasureT-loop
 μ-loop n flags self requests₀ options₀ t₀ requests options t = 32 - t
 
-loop-holds : tie.Need-loop-holds Inv-loop μ-loop
+abbrev Inv-loop2 : tie.InvT-loop2
+Inv-loop2 flags self₀ t s₀ ids ended h i₀ self s i = (i ≤ ended) × (ended ≤ 32) × (length ids ≡ 32) × (length (self .held) ≡ 32) × (withScheduler self s ≡ endEach (withScheduler self₀ s₀) 0 (h .words) (take i ids))
+
+abbrev μ-loop2 : tie.MeasureT-loop2
+μ-loop2 flags self₀ t s₀ ids ended h i₀ self s i = ended - i
+
+loop-holds : tie.Need-loop-holds Inv-loop μ-loop Inv-loop2 μ-loop2
 loop-holds c = (omega arith, refl, refl, (λ j l. absurd (not-suc-le-zero l)), (λ j l. absurd (not-suc-le-zero l)))
 
-mul-h : tie.Need-mul-h Inv-loop μ-loop
+mul-h : tie.Need-mul-h Inv-loop μ-loop Inv-loop2 μ-loop2
 mul-h c = search needs
 
-element-copy-out-h : tie.Need-element-copy-out-h Inv-loop μ-loop
+element-copy-out-h : tie.Need-element-copy-out-h Inv-loop μ-loop Inv-loop2 μ-loop2
 element-copy-out-h c = search needs
 
-mul-requests : tie.Need-mul-requests Inv-loop μ-loop
+mul-requests : tie.Need-mul-requests Inv-loop μ-loop Inv-loop2 μ-loop2
 mul-requests c = search needs
 
-array-write-requests : tie.Need-array-write-requests Inv-loop μ-loop
+array-write-requests : tie.Need-array-write-requests Inv-loop μ-loop Inv-loop2 μ-loop2
 array-write-requests c = search needs
 
-array-write-options : tie.Need-array-write-options Inv-loop μ-loop
+array-write-options : tie.Need-array-write-options Inv-loop μ-loop Inv-loop2 μ-loop2
 array-write-options c = search needs
 
-add-t : tie.Need-add-t Inv-loop μ-loop
+add-t : tie.Need-add-t Inv-loop μ-loop Inv-loop2 μ-loop2
 add-t c = search needs
 
-loop-less : tie.Need-loop-less Inv-loop μ-loop
+loop-less : tie.Need-loop-less Inv-loop μ-loop Inv-loop2 μ-loop2
 loop-less c = search needs
 
-loop-again : tie.Need-loop-again Inv-loop μ-loop
+loop-again : tie.Need-loop-again Inv-loop μ-loop Inv-loop2 μ-loop2
 unfolding heldAt
 loop-again c =
     let a = c .before .before .before .args in
@@ -71,47 +78,119 @@ loop-again c =
       table-more (a .t1) (λ y. y .option) (l .options) (l .t) _ (omega (arith, l .inv .2, c .before .loop-test .taken)) (ap (λ (y : Held). y .option) h) (l .inv .4),
     )
 
-place-requires : tie.Need-place-requires Inv-loop μ-loop
+place-requires : tie.Need-place-requires Inv-loop μ-loop Inv-loop2 μ-loop2
 place-requires c κs = search needs
 
-line-at-requires : tie.Need-line-at-requires Inv-loop μ-loop
+line-at-requires : tie.Need-line-at-requires Inv-loop μ-loop Inv-loop2 μ-loop2
 line-at-requires c κs = search needs
 
-woken-requires : tie.Need-woken-requires Inv-loop μ-loop
+woken-requires : tie.Need-woken-requires Inv-loop μ-loop Inv-loop2 μ-loop2
 woken-requires c κs = search needs
 
-less-requires : tie.Need-less-requires Inv-loop μ-loop
+less-requires : tie.Need-less-requires Inv-loop μ-loop Inv-loop2 μ-loop2
 less-requires c κs = search needs
 
-of-requires : tie.Need-of-requires Inv-loop μ-loop
+of-requires : tie.Need-of-requires Inv-loop μ-loop Inv-loop2 μ-loop2
 of-requires c κs = search needs
 
-groups-with-requires : tie.Need-groups-with-requires Inv-loop μ-loop
+groups-with-requires : tie.Need-groups-with-requires Inv-loop μ-loop Inv-loop2 μ-loop2
 groups-with-requires c κs = search needs
 
-two-words-requires : tie.Need-two-words-requires Inv-loop μ-loop
+size-requires : tie.Need-size-requires Inv-loop μ-loop Inv-loop2 μ-loop2
+size-requires c κs = search needs
+
+cast-ended : tie.Need-cast-ended Inv-loop μ-loop Inv-loop2 μ-loop2
+cast-ended c = search needs
+
+two-words-requires : tie.Need-two-words-requires Inv-loop μ-loop Inv-loop2 μ-loop2
 two-words-requires c κs = search needs
 
-ended-each-requires : tie.Need-ended-each-requires Inv-loop μ-loop
-ended-each-requires c κs = search needs
+of-requires-2 : tie.Need-of-requires-2 Inv-loop μ-loop Inv-loop2 μ-loop2
+of-requires-2 c κs = search needs
 
-returns : tie.Need-returns Inv-loop μ-loop
-unfolding setOr holding withGroup lineOf
+loop2-holds : tie.Need-loop2-holds Inv-loop μ-loop Inv-loop2 μ-loop2
+unfolding endEach withScheduler lineOf
+loop2-holds c =
+    let a = c .before .before .before .before .before .before .before .before .before .before .before .before .before .before .before .args in
+    let z = c .before .before .size .ensures in
+    let o : length (c .before .before .before .before .before .before .before .before .before .woken .result .line .ids) ≡ 32 = ap (λ (y : Line). length (y .ids)) (c .before .before .before .before .before .before .before .before .before .woken .ensures .0) ∙ length-pad 32 _ in
+    let w = length-members (c .before .before .before .before .before .before .before .before .before .woken .result .line) o in
+    (omega arith, omega (arith, z, w), o, length-mapped _ (a .t1 .held) 32 (c .before .before .before .before .before .before .before .before .before .before .before .before .before .before .before .good .0 .1 .1 .1 .0 .1 .0 .1), refl)
+
+array-read-x : tie.Need-array-read-x Inv-loop μ-loop Inv-loop2 μ-loop2
+array-read-x c = search needs
+
+cast-u : tie.Need-cast-u Inv-loop μ-loop Inv-loop2 μ-loop2
+cast-u c = search (needs, c .before .before .before .before .before .before .before .before .before .before .before .woken .ok .1 .1 .0 .1 .1 .0 .1 .1)
+
+add-i : tie.Need-add-i Inv-loop μ-loop Inv-loop2 μ-loop2
+add-i c = search needs
+
+woken-requires-2 : tie.Need-woken-requires-2 Inv-loop μ-loop Inv-loop2 μ-loop2
+woken-requires-2 c κs = search needs
+
+mul-h-2 : tie.Need-mul-h-2 Inv-loop μ-loop Inv-loop2 μ-loop2
+mul-h-2 c = search needs
+
+element-set-from-h : tie.Need-element-set-from-h Inv-loop μ-loop Inv-loop2 μ-loop2
+element-set-from-h c = search needs
+
+loop2-less : tie.Need-loop2-less Inv-loop μ-loop Inv-loop2 μ-loop2
+loop2-less c = search needs
+
+loop2-again : tie.Need-loop2-again Inv-loop μ-loop Inv-loop2 μ-loop2
+unfolding withScheduler withHeld endWait holding
+loop2-again c =
+    let l = c .before .before .before .loop2 in
+    let ids = c .before .before .before .before .before .before .before .before .before .before .before .before .before .woken .result .line .ids in
+    let x = getD ids (l .i) 0 in
+    let h : l .i < length ids = omega (arith, l .inv .0, l .inv .1, l .inv .2, c .before .before .loop2-test .taken) in
+    let v = c .before .before .before .before .of2 .result in
+    let g : v ≡ holding 0 (v .words) = c .before .before .before .before .of2 .ensures ∙ sym (ap (λ (y : Held). holding 0 (y .words)) (c .before .before .before .before .of2 .ensures)) in
+    (omega arith, omega arith, l .inv .2, simp length-set (l .inv .3), rw (c .before .woken2 .ensures) ((λ j. withHeld (withScheduler (l .self) (woken (l .s) x)) x (g j)) ∙ ap (λ (u : Kernel). endWait u x 0 (v .words)) (l .inv .4) ∙ sym (each-more _ 0 (v .words) ids (l .i) h)))
+
+loop2-less-2 : tie.Need-loop2-less-2 Inv-loop μ-loop Inv-loop2 μ-loop2
+loop2-less-2 c = search needs
+
+loop2-again-2 : tie.Need-loop2-again-2 Inv-loop μ-loop Inv-loop2 μ-loop2
+unfolding withScheduler withHeld endWait
+loop2-again-2 c =
+    let l = c .before .before .before .loop2 in
+    let ids = c .before .before .before .before .before .before .before .before .before .before .before .before .before .woken .result .line .ids in
+    let x = getD ids (l .i) 0 in
+    let h : l .i < length ids = omega (arith, l .inv .0, l .inv .1, l .inv .2, c .before .before .loop2-test .taken) in
+    let v = c .before .before .before .before .of2 .result in
+    (omega arith, omega arith, l .inv .2, l .inv .3, rw (c .before .woken2 .ensures) (sym (held-out (withScheduler (l .self) (woken (l .s) x)) x (holding 0 (v .words)) (l .inv .3) (c .if1 .left)) ∙ ap (λ (u : Kernel). endWait u x 0 (v .words)) (l .inv .4) ∙ sym (each-more _ 0 (v .words) ids (l .i) h)))
+
+cast-carried : tie.Need-cast-carried Inv-loop μ-loop Inv-loop2 μ-loop2
+cast-carried c = search needs
+
+carried-requires : tie.Need-carried-requires Inv-loop μ-loop Inv-loop2 μ-loop2
+carried-requires c κs = search needs
+
+returns : tie.Need-returns Inv-loop μ-loop Inv-loop2 μ-loop2
+unfolding setOr holding withGroup lineOf answerOf carried answered withScheduler
 returns c =
-    let a = c .before .before .before .before .before .before .before .before .before .before .before .before .args in
-    let l = c .before .before .before .before .before .before .before .before .before .before .before .loop in
-    let s : length (a .t1 .held) ≡ 32 = length-mapped _ (a .t1 .held) 32 (c .before .before .before .before .before .before .before .before .before .before .before .before .good .0 .1 .1 .1 .0 .1 .0 .1) in
-    let e : l .t ≡ 32 = omega arith in
+    let a = c .before .before .before .before .before .before .before .before .before .before .before .before .before .before .before .before .before .before .args in
+    let l = c .before .before .before .before .before .before .before .before .before .before .before .before .before .before .before .before .before .loop in
+    let s : length (a .t1 .held) ≡ 32 = length-mapped _ (a .t1 .held) 32 (c .before .before .before .before .before .before .before .before .before .before .before .before .before .before .before .before .before .before .good .0 .1 .1 .1 .0 .1 .0 .1) in
+    let e : l .t ≡ 32 = omega (arith, l .inv .0, c .before .before .before .before .before .before .before .before .before .before .before .before .before .before .before .before .loop-test .left) in
     let rs = table-all (a .t1) (λ y. y .request) (l .requests) refl (l .inv .1) s (λ j m. l .inv .3 j (omega (arith, m, e))) in
     let os = table-all (a .t1) (λ y. y .option) (l .options) refl (l .inv .2) s (λ j m. l .inv .4 j (omega (arith, m, e))) in
     let line = lineAt (a .t1 .scheduler) (groupPlace (a .n .0)) in
-    let m : members (c .before .before .before .before .before .before .before .line-at .result) ≡ line = c .before .before .before .before .before .before .before .line-at .ensures .1 ∙ ap (lineAt (a .t1 .scheduler)) (c .before .before .before .before .before .before .before .before .place .ensures) in
-    let most : length line ≤ 32 = let o = length-members (c .before .before .before .before .before .before .before .line-at .result) (ap (λ (y : Line). length (y .ids)) (c .before .before .before .before .before .before .before .line-at .ensures .0) ∙ length-pad 32 _) in let q = ap (λ (xs : List ℕ). length xs) m in omega (arith, o, q) in
-    let w : members (c .before .before .before .before .before .before .woken .result .line) ≡ wokenBy (a .t1) (a .n .0) (a .flags) = ap members (c .before .before .before .before .before .before .woken .ensures .0 ∙ ap (λ (xs : List ℕ). lineOf (wokenOf (a .flags) (l .requests) (l .options) xs)) m) ∙ woken-members (a .t1) (a .n .0) (a .flags) (l .requests) (l .options) rs os most in
-    let x : c .before .before .before .before .before .before .woken .result .clears ≡ clearsBy (a .t1) (a .n .0) (a .flags) = c .before .before .before .before .before .before .woken .ensures .1 ∙ ap (clearsOf (a .flags) (l .requests) (l .options)) m ∙ clears-by (a .t1) (a .n .0) (a .flags) (l .requests) (l .options) rs os in
+    let m : members (c .before .before .before .before .before .before .before .before .before .before .before .before .before .line-at .result) ≡ line = c .before .before .before .before .before .before .before .before .before .before .before .before .before .line-at .ensures .1 ∙ ap (lineAt (a .t1 .scheduler)) (c .before .before .before .before .before .before .before .before .before .before .before .before .before .before .place .ensures) in
+    let most : length line ≤ 32 = let o = length-members (c .before .before .before .before .before .before .before .before .before .before .before .before .before .line-at .result) (ap (λ (y : Line). length (y .ids)) (c .before .before .before .before .before .before .before .before .before .before .before .before .before .line-at .ensures .0) ∙ length-pad 32 _) in let q = ap (λ (xs : List ℕ). length xs) m in omega (arith, o, q) in
+    let w : members (c .before .before .before .before .before .before .before .before .before .before .before .before .woken .result .line) ≡ wokenBy (a .t1) (a .n .0) (a .flags) = ap members (c .before .before .before .before .before .before .before .before .before .before .before .before .woken .ensures .0 ∙ ap (λ (xs : List ℕ). lineOf (wokenOf (a .flags) (l .requests) (l .options) xs)) m) ∙ woken-members (a .t1) (a .n .0) (a .flags) (l .requests) (l .options) rs os most in
+    let x : c .before .before .before .before .before .before .before .before .before .before .before .before .woken .result .clears ≡ clearsBy (a .t1) (a .n .0) (a .flags) = c .before .before .before .before .before .before .before .before .before .before .before .before .woken .ensures .1 ∙ ap (clearsOf (a .flags) (l .requests) (l .options)) m ∙ clears-by (a .t1) (a .n .0) (a .flags) (l .requests) (l .options) rs os in
     let g = groupWith (lessFlags (a .flags) (clearsBy (a .t1) (a .n .0) (a .flags))) in
     let u = wokenBy (a .t1) (a .n .0) (a .flags) in
-    c .ended-each .ensures ∙ rw (w, c .before .before .groups-with .ensures, c .before .before .before .of .ensures, c .before .before .before .before .less .ensures, x, c .before .two-words .ensures) (ap (λ (k : Kernel). answerOf (carried k 0 noWords u)) (each-group (a .t1) (a .n .0) g 0 (oneWord (a .flags)) u))
+    let p = c .before .before .loop2 in
+    let ids = c .before .before .before .before .before .before .before .before .before .before .before .before .woken .result .line .ids in
+    let n : p .i ≡ length (members (c .before .before .before .before .before .before .before .before .before .before .before .before .woken .result .line)) = omega (arith, p .inv .0, c .before .before .before .before .before .size .ensures, c .before .loop2-test .left) in
+    let k : Kernel = record { scheduler = a .t1 .scheduler; held = a .t1 .held; semaphores = a .t1 .semaphores; queues = a .t1 .queues; groups = c .before .before .before .before .before .before .before .before .groups-with .result; pools = a .t1 .pools; clock = a .t1 .clock } in
+    let each : withScheduler (p .self) (p .s) ≡ endEach k 0 (c .before .before .before .before .two-words .result) (members (c .before .before .before .before .before .before .before .before .before .before .before .before .woken .result .line)) = p .inv .4 ∙ (λ j. endEach k 0 (c .before .before .before .of2 .ensures j .words) (take (p .i) ids)) ∙ ap (endEach k 0 (c .before .before .before .before .two-words .result)) (ap (λ (j : ℕ). take j ids) n ∙ members-take (c .before .before .before .before .before .before .before .before .before .before .before .before .woken .result .line)) in
+    let done : c .carried .result ≡ answerOf (carried (endEach k 0 (c .before .before .before .before .two-words .result) (members (c .before .before .before .before .before .before .before .before .before .before .before .before .woken .result .line))) 0 noWords (members (c .before .before .before .before .before .before .before .before .before .before .before .before .woken .result .line))) = c .carried .ensures ∙ (λ j. record { status = 0; words = noWords; next = rescheduled (each j .scheduler) false .running; ended = c .before .before .before .before .before .size .ensures j; kernel = withScheduler (each j) (rescheduled (each j .scheduler) false) }) in
+    done ∙ rw (w, c .before .before .before .before .before .before .before .before .groups-with .ensures, c .before .before .before .before .before .before .before .before .before .of .ensures, c .before .before .before .before .before .before .before .before .before .before .less .ensures, x, c .before .before .before .before .two-words .ensures) (ap (λ (y : Kernel). answerOf (carried y 0 noWords u)) (each-group (a .t1) (a .n .0) g 0 (oneWord (a .flags)) u))
 
 pub set-or-spec : {M : Type 1} → statement M
 set-or-spec =
@@ -119,6 +198,8 @@ set-or-spec =
     (tie.spec
     Inv-loop
     μ-loop
+    Inv-loop2
+    μ-loop2
     loop-holds
     mul-h
     element-copy-out-h
@@ -134,6 +215,21 @@ set-or-spec =
     less-requires
     of-requires
     groups-with-requires
+    size-requires
+    cast-ended
     two-words-requires
-    ended-each-requires
+    of-requires-2
+    loop2-holds
+    array-read-x
+    cast-u
+    add-i
+    woken-requires-2
+    mul-h-2
+    element-set-from-h
+    loop2-less
+    loop2-again
+    loop2-less-2
+    loop2-again-2
+    cast-carried
+    carried-requires
     returns)
