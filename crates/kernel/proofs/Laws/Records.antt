@@ -15,7 +15,7 @@ use Rattle.calls.specs.declared.call.Decoded.the-variants.{Known, Unknown}
 use Rattle.calls.proofs.Laws.Calls.{NoneOf, numbers, unknown}
 use Rattle.kernel.specs.declared.Kernel.{Kernel}
 use Rattle.kernel.specs.Tables.{runnerOf}
-use Rattle.kernel.specs.Answers.{Outcome, refused}
+use Rattle.kernel.specs.Answers.{refused}
 use Rattle.kernel.specs.General.{service, byCaller, byRecord, step}
 use Rattle.kernel.specs.Runs.{admittedAs}
 
