@@ -121,6 +121,7 @@ impl Kernel {
                 37 => k.block_pool_prioritize(p),
                 38 => k.thread_state_read(t),
                 39 => k.thread_words_read(t),
+                // not a call's number: the status that `admitted` gave
                 _ => k.refused(number),
             };
             let next = a.next;
