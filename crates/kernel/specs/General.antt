@@ -1,6 +1,6 @@
 -- The general call.
 use mathlib.Core.List.{List}
-use mathlib.Core.Bool.{true, false, _&&_, not}
+use mathlib.Core.Bool.{Bool, true, false, _&&_, not}
 use Prim.Native.Nat.{ℕ}
 use lib.Dec.{eqb, ltb}
 use Rattle.lines.specs.Logic.{if_then_else_}
@@ -66,9 +66,13 @@ service k caller (BlockPoolPrioritize n) messages = poolPrioritize k (n .0)
 service k caller (ThreadStateRead t) messages = threadStateRead k (t .0)
 service k caller (ThreadWordsRead t) messages = threadWordsRead k (t .0)
 
--- "0x102: caller 2 and nobody runs", before every other reason of a known call
+-- "0x102: caller 2 and nobody runs"
+abbrev pub nobodyRunsb : ℕ → ℕ → Bool
+nobodyRunsb caller running = eqb caller thread && not (ltb running 32)
+
+-- it comes before every other reason of a known call
 unfoldable pub byCaller : Kernel → ℕ → Call → List ℕ → Outcome
-byCaller k caller call messages = if eqb caller thread && not (ltb (runnerOf k) 32) then refused k Statuses.nobodyRuns else service k caller call messages
+byCaller k caller call messages = if nobodyRunsb caller (runnerOf k) then refused k Statuses.nobodyRuns else service k caller call messages
 
 -- "0x104: call number or caller kind unknown"
 unfoldable pub byRecord : Kernel → ℕ → Decoded → List ℕ → Outcome

@@ -1,11 +1,9 @@
 -- Runs of call tapes: the records one after the other, each on the tables that the last handed back.
 use mathlib.Core.List.{List, [], _∷_}
-use mathlib.Core.Bool.{_&&_, _||_, not}
+use mathlib.Core.Bool.{_||_, not}
 use Prim.Native.Nat.{ℕ, _+_, min}
 use lib.ListN.{take}
-use lib.Dec.{eqb, ltb}
 use Rattle.lines.specs.Logic.{if_then_else_}
-use Rattle.calls.specs.Calls.{thread}
 use Rattle.calls.specs.Statuses as Statuses
 use Rattle.calls.specs.declared.call.Decoded.{Decoded}
 use Rattle.calls.specs.declared.call.Decoded.the-variants.{Known, Unknown}
@@ -16,7 +14,7 @@ use Rattle.tape.specs.Tapes.{refusedb, countOf, recordsOf, messagesOf}
 use Rattle.kernel.specs.declared.Kernel.{Kernel}
 use Rattle.kernel.specs.declared.Answer.{Answer}
 use Rattle.kernel.specs.declared.run.Ran.{Ran}
-use Rattle.kernel.specs.General.{call}
+use Rattle.kernel.specs.General.{nobodyRunsb, call}
 use Rattle.kernel.specs.Sound.{soundb}
 
 -- the tables after one record
@@ -40,7 +38,7 @@ ran k bytes most =
 -- what comes of a record before any service: the number of its call, or the status that refuses it, as General's byRecord and byCaller have it
 unfoldable pub admittedAs : ℕ → ℕ → ℕ → Decoded → ℕ
 admittedAs number caller running Unknown = Statuses.unknownCall
-admittedAs number caller running (Known call) = if eqb caller thread && not (ltb running 32) then Statuses.nobodyRuns else number
+admittedAs number caller running (Known call) = if nobodyRunsb caller running then Statuses.nobodyRuns else number
 
 -- ---- replies
 -- a call's result without the tables

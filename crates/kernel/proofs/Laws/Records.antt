@@ -1,10 +1,10 @@
 -- Laws of records: the choice of a service by the number of its call.
 use mathlib.Core.Path.{_≡_, refl, sym, ap, _∙_}
 use mathlib.Core.List.{List}
-use mathlib.Core.Bool.{Bool, true, false, _&&_, not}
+use mathlib.Core.Bool.{Bool, true, false}
 use Prim.Native.Nat.{ℕ, _<_}
 use native.Mathlib.Omega.{arith}
-use lib.Dec.{eqb, ltb}
+use lib.Dec.{ltb}
 use Rattle.lines.specs.Logic.{if_then_else_}
 use Rattle.lines.proofs.Laws.Logic.{by-test, never}
 use Rattle.calls.specs.Calls.{thread, knownCall, decoded}
@@ -16,7 +16,7 @@ use Rattle.calls.proofs.Laws.Calls.{NoneOf, numbers, unknown}
 use Rattle.kernel.specs.declared.Kernel.{Kernel}
 use Rattle.kernel.specs.Tables.{runnerOf}
 use Rattle.kernel.specs.Answers.{refused}
-use Rattle.kernel.specs.General.{service, byCaller, byRecord, step}
+use Rattle.kernel.specs.General.{service, nobodyRunsb, byCaller, byRecord, step}
 use Rattle.kernel.specs.Runs.{admittedAs}
 
 knownb : Decoded → Bool
@@ -29,10 +29,6 @@ unfolding knownb
 apart x e = never {b = knownb (Known x)} refl (sym (ap knownb e))
 
 module _ (k : Kernel) (n caller a b c d : ℕ) (ms : List ℕ) where
-  -- whether a thread calls while nobody runs
-  abbrev idleb : Bool
-  idleb = eqb caller thread && not (ltb (runnerOf k) 32)
-
   -- a record that is a known call is that of its number
   of-number : (x : Call) → decoded n caller a b c d ≡ Known x → knownCall n a b c d ≡ Known x
   unfolding decoded
@@ -49,7 +45,7 @@ module _ (k : Kernel) (n caller a b c d : ℕ) (ms : List ℕ) where
       by-record : (x : Decoded) → decoded n caller a b c d ≡ x → m ≡ admittedAs n caller (runnerOf k) x → m < 40 → knownCall m a b c d ≡ Known call → byRecord k caller x ms ≡ service k caller call ms
       by-record Unknown e q l h = absurd (omega (arith, q, l))
       by-record (Known y) e q l h =
-          by-test idleb
+          by-test (nobodyRunsb caller (runnerOf k))
           (λ t. absurd (let z : m ≡ Statuses.nobodyRuns = q ∙ ap (λ (i : Bool). if i then Statuses.nobodyRuns else n) t in omega (arith, z, l)))
           (λ f.
           let z : m ≡ n = q ∙ ap (λ (i : Bool). if i then Statuses.nobodyRuns else n) f in
@@ -64,7 +60,7 @@ module _ (k : Kernel) (n caller a b c d : ℕ) (ms : List ℕ) where
       by-record : (x : Decoded) → decoded n caller a b c d ≡ x → m ≡ admittedAs n caller (runnerOf k) x → NoneOf numbers m → byRecord k caller x ms ≡ refused k m
       by-record Unknown e q r = ap (refused k) (sym q)
       by-record (Known y) e q r =
-          by-test idleb
+          by-test (nobodyRunsb caller (runnerOf k))
           (λ t. ap (λ (i : Bool). if i then refused k Statuses.nobodyRuns else service k caller y ms) t ∙ ap (refused k) (sym (q ∙ ap (λ (i : Bool). if i then Statuses.nobodyRuns else n) t)))
           (λ f.
           let z : m ≡ n = q ∙ ap (λ (i : Bool). if i then Statuses.nobodyRuns else n) f in

@@ -21,7 +21,7 @@ use Rattle.objects.specs.declared.semaphore.Semaphore.{Semaphore}
 use Rattle.objects.specs.declared.queue.Queue.{Queue}
 use Rattle.objects.specs.declared.group.Group.{Group}
 use Rattle.blocks.specs.declared.pool.Pool.{Pool}
-use Rattle.calls.specs.Held.{noWords}
+use Rattle.calls.specs.Held.{noWords, holding}
 use Rattle.kernel.specs.declared.Kernel.{Kernel}
 use Rattle.kernel.specs.Tables.{threadOf, heldAt, withScheduler, withHeld, withSemaphore, withQueue, withGroup, withPool}
 use Rattle.waiting.specs.Ticks.{timedb, timeoutStatus, withTicks, lastTickb}
@@ -36,6 +36,11 @@ each-last k status words (x ∷ xs) t = each-last (endWait k x status words) sta
 -- one slot more of a line
 pub each-more : (k : Kernel) (status : ℕ) (words xs : List ℕ) (i : ℕ) → i < length xs → endEach k status words (take (i + 1) xs) ≡ endWait (endEach k status words (take i xs)) (getD xs i 0) status words
 each-more k status words xs i h = ap (endEach k status words) (take-one xs i h) ∙ each-last k status words (take i xs) (getD xs i 0)
+
+-- the same in a loop that keeps the scheduler beside the tables
+pub each-step : (k self : Kernel) (s : Scheduler) (status : ℕ) (words xs : List ℕ) (i : ℕ) → i < length xs → withScheduler self s ≡ endEach k status words (take i xs) → withHeld (withScheduler self (woken s (getD xs i 0))) (getD xs i 0) (holding status words) ≡ endEach k status words (take (i + 1) xs)
+unfolding withScheduler withHeld endWait
+each-step k self s status words xs i h e = ap (λ (u : Kernel). endWait u (getD xs i 0) status words) e ∙ sym (each-more k status words xs i h)
 
 -- a change that goes past the end of one wait goes past the end of several
 each-past : (f : Kernel → Kernel) (status : ℕ) (words : List ℕ) → ((k : Kernel) (t : ℕ) → endWait (f k) t status words ≡ f (endWait k t status words))

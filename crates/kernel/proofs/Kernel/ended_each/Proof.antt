@@ -13,8 +13,8 @@ use Rattle.calls.specs.Held.{noWords, holding}
 use Rattle.kernel.specs.declared.Kernel.{Kernel}
 use Rattle.kernel.specs.Tables.{withScheduler, withHeld}
 use Rattle.kernel.specs.Answers.{answerOf, carried, answered}
-use Rattle.kernel.specs.Waits.{endWait, endEach}
-use Rattle.kernel.proofs.Laws.Waits.{each-more}
+use Rattle.kernel.specs.Waits.{endEach}
+use Rattle.kernel.proofs.Laws.Waits.{each-step}
 use Rattle.kernel.proofs.Laws.Answers.{held-out}
 use lib.ListN.{length-set}
 use Rattle.scheduler.specs.Choice.{rescheduled}
@@ -67,7 +67,7 @@ loop-less : tie.Need-loop-less Inv-loop μ-loop
 loop-less c = search needs
 
 loop-again : tie.Need-loop-again Inv-loop μ-loop
-unfolding withScheduler withHeld endWait holding
+unfolding withScheduler withHeld holding
 loop-again c =
     let a = c .before .before .before .before .before .before .before .before .args in
     let l = c .before .before .before .loop in
@@ -75,20 +75,20 @@ loop-again c =
     let h : l .i < length (a .line .ids) = omega arith in
     let v = c .before .before .before .before .before .of .result in
     let g : v ≡ holding (a .status) (v .words) = c .before .before .before .before .before .of .ensures ∙ sym (ap (λ (y : Held). holding (a .status) (y .words)) (c .before .before .before .before .before .of .ensures)) in
-    (omega arith, omega arith, l .inv .2, simp length-set (l .inv .3), rw (c .before .woken .ensures) ((λ j. withHeld (withScheduler (l .self) (woken (l .s) x)) x (g j)) ∙ ap (λ (u : Kernel). endWait u x (a .status) (v .words)) (l .inv .4) ∙ sym (each-more (a .t1) (a .status) (v .words) (a .line .ids) (l .i) h)))
+    (omega arith, omega arith, l .inv .2, simp length-set (l .inv .3), rw (c .before .woken .ensures) ((λ j. withHeld (withScheduler (l .self) (woken (l .s) x)) x (g j)) ∙ each-step (a .t1) (l .self) (l .s) (a .status) (v .words) (a .line .ids) (l .i) h (l .inv .4)))
 
 loop-less-2 : tie.Need-loop-less-2 Inv-loop μ-loop
 loop-less-2 c = search needs
 
 loop-again-2 : tie.Need-loop-again-2 Inv-loop μ-loop
-unfolding withScheduler withHeld endWait
+unfolding withScheduler withHeld
 loop-again-2 c =
     let a = c .before .before .before .before .before .before .before .before .args in
     let l = c .before .before .before .loop in
     let x = getD (a .line .ids) (l .i) 0 in
     let h : l .i < length (a .line .ids) = omega arith in
     let v = c .before .before .before .before .before .of .result in
-    (omega arith, omega arith, l .inv .2, l .inv .3, rw (c .before .woken .ensures) (sym (held-out (withScheduler (l .self) (woken (l .s) x)) x (holding (a .status) (v .words)) (l .inv .3) (c .if1 .left)) ∙ ap (λ (u : Kernel). endWait u x (a .status) (v .words)) (l .inv .4) ∙ sym (each-more (a .t1) (a .status) (v .words) (a .line .ids) (l .i) h)))
+    (omega arith, omega arith, l .inv .2, l .inv .3, rw (c .before .woken .ensures) (sym (held-out (withScheduler (l .self) (woken (l .s) x)) x (holding (a .status) (v .words)) (l .inv .3) (c .if1 .left)) ∙ each-step (a .t1) (l .self) (l .s) (a .status) (v .words) (a .line .ids) (l .i) h (l .inv .4)))
 
 cast-carried : tie.Need-cast-carried Inv-loop μ-loop
 cast-carried c = search needs

@@ -17,13 +17,13 @@ use Rattle.kernel.specs.declared.Kernel.{Kernel}
 use Rattle.kernel.specs.Tables.{heldAt, withGroup, withScheduler, withHeld}
 use Rattle.kernel.specs.Answers.{answerOf, carried, answered}
 use Rattle.kernel.specs.Groups.{groupPlace, wokenBy, clearsBy, setOr}
-use Rattle.kernel.proofs.Laws.Waits.{each-group, each-more}
+use Rattle.kernel.proofs.Laws.Waits.{each-group, each-step}
 use Rattle.kernel.proofs.Laws.Groups.{table-all, clears-by, woken-members, table-more}
 use Rattle.lines.proofs.Laws.Lists.{getD-any}
 use native.Mathlib.Nat.{not-suc-le-zero}
 use Rattle.lines.specs.declared.Line.{Line}
 use Rattle.scheduler.specs.Choice.{rescheduled}
-use Rattle.kernel.specs.Waits.{endWait, endEach}
+use Rattle.kernel.specs.Waits.{endEach}
 use Rattle.kernel.proofs.Laws.Answers.{held-out}
 use Rattle.kernel.proofs.Kernel.set_or.Statement.{statement}
 use Rattle.kernel.proofs.Kernel.set_or.Tie as tie
@@ -139,7 +139,7 @@ loop2-less : tie.Need-loop2-less Inv-loop μ-loop Inv-loop2 μ-loop2
 loop2-less c = search needs
 
 loop2-again : tie.Need-loop2-again Inv-loop μ-loop Inv-loop2 μ-loop2
-unfolding withScheduler withHeld endWait holding
+unfolding withScheduler withHeld holding
 loop2-again c =
     let l = c .before .before .before .loop2 in
     let ids = c .before .before .before .before .before .before .before .before .before .before .before .before .before .woken .result .line .ids in
@@ -147,20 +147,20 @@ loop2-again c =
     let h : l .i < length ids = omega (arith, l .inv .0, l .inv .1, l .inv .2, c .before .before .loop2-test .taken) in
     let v = c .before .before .before .before .of2 .result in
     let g : v ≡ holding 0 (v .words) = c .before .before .before .before .of2 .ensures ∙ sym (ap (λ (y : Held). holding 0 (y .words)) (c .before .before .before .before .of2 .ensures)) in
-    (omega arith, omega arith, l .inv .2, simp length-set (l .inv .3), rw (c .before .woken2 .ensures) ((λ j. withHeld (withScheduler (l .self) (woken (l .s) x)) x (g j)) ∙ ap (λ (u : Kernel). endWait u x 0 (v .words)) (l .inv .4) ∙ sym (each-more _ 0 (v .words) ids (l .i) h)))
+    (omega arith, omega arith, l .inv .2, simp length-set (l .inv .3), rw (c .before .woken2 .ensures) ((λ j. withHeld (withScheduler (l .self) (woken (l .s) x)) x (g j)) ∙ each-step _ (l .self) (l .s) 0 (v .words) ids (l .i) h (l .inv .4)))
 
 loop2-less-2 : tie.Need-loop2-less-2 Inv-loop μ-loop Inv-loop2 μ-loop2
 loop2-less-2 c = search needs
 
 loop2-again-2 : tie.Need-loop2-again-2 Inv-loop μ-loop Inv-loop2 μ-loop2
-unfolding withScheduler withHeld endWait
+unfolding withScheduler withHeld
 loop2-again-2 c =
     let l = c .before .before .before .loop2 in
     let ids = c .before .before .before .before .before .before .before .before .before .before .before .before .before .woken .result .line .ids in
     let x = getD ids (l .i) 0 in
     let h : l .i < length ids = omega (arith, l .inv .0, l .inv .1, l .inv .2, c .before .before .loop2-test .taken) in
     let v = c .before .before .before .before .of2 .result in
-    (omega arith, omega arith, l .inv .2, l .inv .3, rw (c .before .woken2 .ensures) (sym (held-out (withScheduler (l .self) (woken (l .s) x)) x (holding 0 (v .words)) (l .inv .3) (c .if1 .left)) ∙ ap (λ (u : Kernel). endWait u x 0 (v .words)) (l .inv .4) ∙ sym (each-more _ 0 (v .words) ids (l .i) h)))
+    (omega arith, omega arith, l .inv .2, l .inv .3, rw (c .before .woken2 .ensures) (sym (held-out (withScheduler (l .self) (woken (l .s) x)) x (holding 0 (v .words)) (l .inv .3) (c .if1 .left)) ∙ each-step _ (l .self) (l .s) 0 (v .words) ids (l .i) h (l .inv .4)))
 
 cast-carried : tie.Need-cast-carried Inv-loop μ-loop Inv-loop2 μ-loop2
 cast-carried c = search needs
