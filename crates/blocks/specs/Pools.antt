@@ -1,7 +1,8 @@
 -- A block pool's record.
+use mathlib.Core.Path.{_≡_}
 use mathlib.Core.List.{List, _∷_}
 use mathlib.Core.Bool.{Bool, true, false, _&&_}
-use Prim.Native.Nat.{ℕ, _+_, _*_, _/_, _%_}
+use Prim.Native.Nat.{ℕ, _+_, _*_, _/_, _%_, _<_}
 use lib.ListN.{length, take, drop, getD, replicate}
 use lib.Dec.{eqb, ltb, leb}
 use Rattle.lines.specs.Logic.{if_then_else_, allBelow}
@@ -78,3 +79,11 @@ withFree p n = listing p (n ∷ freeBlocks p)
 -- "Block n starts at n × (block bytes + 4) + 4"
 unfoldable pub blockStart : Pool → ℕ → ℕ
 blockStart p n = n * (p .block + 4) + 4
+
+-- What is proved of a fit record of a created pool. Its proof is `pools` of proofs/Laws/Pools.antt.
+pub record PoolClaims : Type 0 where
+  -- a block that is given is one of the pool's, and from then on in use
+  pub given : (p : Pool) → poolFitb p ≡ true → p .created ≡ true → length (p .list) ≡ slots → 0 < p .free → usedb (withoutNext p) (nextBlock p) ≡ true
+  -- a block that is released is in use no more, and is given first
+  pub released : (p : Pool) → poolFitb p ≡ true → p .created ≡ true → (n : ℕ) → usedb p n ≡ true → usedb (withFree p n) n ≡ false
+  pub lastFirst : (p : Pool) → poolFitb p ≡ true → p .created ≡ true → (n : ℕ) → usedb p n ≡ true → nextBlock (withFree p n) ≡ n

@@ -1,3 +1,2 @@
-pub mod Semaphores
 pub mod Queues
 pub mod Groups

@@ -4,7 +4,7 @@ use mathlib.Core.Path.{_≡_}
 use mathlib.Core.Bool.{cond}
 use mathlib.Core.List.{List, [], _∷_, _++_}
 use Prim.Native.Nat.{ℕ, zero, suc, _+_, _/_, _%_, _≤_, min}
-use lib.ListN.{length, set}
+use lib.ListN.{length, take, drop, set}
 use lib.Dec.{ltb}
 
 -- where the next byte goes: at the position, or at the front, once a buffer that is full was written out
@@ -30,6 +30,11 @@ pub record Put (before : List ℕ) (at : ℕ) (text after : List ℕ) (r : ℕ) 
   pub end : r ≡ textEnd (length before) at text
   pub bytes : after ≡ textIn before at text
   pub within : r ≤ length after
+
+-- A text that finds room stands behind the text before it, and every other byte is as before. Proved as `texts` of proofs/Laws/Texts.antt.
+pub record TextClaims : Type 0 where
+  pub roomEnd : (size at : ℕ) (bs : List ℕ) → at + length bs ≤ size → textEnd size at bs ≡ at + length bs
+  pub roomBytes : (buf : List ℕ) (at : ℕ) (bs : List ℕ) → at + length bs ≤ length buf → textIn buf at bs ≡ take at buf ++ bs ++ drop (at + length bs) buf
 
 -- the ASCII digits of a number that has at most so many
 unfoldable pub decimalIn : ℕ → ℕ → List ℕ

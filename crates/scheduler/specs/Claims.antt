@@ -2,17 +2,17 @@
 use mathlib.Core.Path.{_≡_}
 use mathlib.Core.List.{List, _∷_, _++_}
 use mathlib.Core.Bool.{Bool, true, false}
-use Prim.Native.Nat.{ℕ, _<_, _≤_}
+use Prim.Native.Nat.{ℕ, _<_, _≤_, min}
 use lib.ListN.{length}
 use Rattle.lines.specs.Logic.{oneIf}
 use Rattle.lines.specs.Lists.{nobody, worst, without, onlyIf, count, prioritised, Begins}
 use Rattle.scheduler.specs.declared.thread.Thread.{Thread}
 use Rattle.scheduler.specs.declared.thread.Place.{Place}
 use Rattle.scheduler.specs.declared.Scheduler.{Scheduler}
-use Rattle.scheduler.specs.Threads.{standsb, placedb}
-use Rattle.scheduler.specs.Orders.{threadAt, priorityAt, runner, lineAt, firstAt, withThread, started, moved, movedFront, prioritisedAt}
+use Rattle.scheduler.specs.Threads.{readyb, standsb, placedb}
+use Rattle.scheduler.specs.Orders.{threadAt, priorityAt, thresholdAt, runner, lineAt, firstAt, withThread, started, moved, movedFront, prioritisedAt}
 use Rattle.scheduler.specs.Choice.{rescheduled, relinquished}
-use Rattle.scheduler.specs.Changes.{priorityChanged, preemptionChanged}
+use Rattle.scheduler.specs.Changes.{withLevels, priorityChanged, preemptionChanged}
 use Rattle.scheduler.specs.Sound.{fitb, soundb, Steady, Sound}
 
 pub record Claims : Type 0 where
@@ -44,7 +44,13 @@ pub record Claims : Type 0 where
   -- prioritise moves the first of the best priority to the front of its place, and nothing else
   pub prioritisedHere : (s : Scheduler) → Steady s → (p : Place) → lineAt (prioritisedAt s p) p ≡ prioritised (priorityAt s) (lineAt s p)
   pub prioritisedElsewhere : (s : Scheduler) → Steady s → (p q : Place) → (q ≡ p → ⊥) → lineAt (prioritisedAt s p) q ≡ lineAt s q
-  -- the choice moves nobody
+  -- priority change moves a ready thread to the end of its new order; a thread that is not ready keeps its place
+  pub priorityLine : (s : Scheduler) → Steady s → (t p : ℕ) → t < nobody → threadAt s t .created ≡ true → p < worst → readyb (threadAt s t) ≡ true
+      → (q : Place) → lineAt (priorityChanged s t p) q ≡ without t (lineAt s q) ++ onlyIf (placedb q (withLevels p (min (thresholdAt s t) p) (threadAt s t))) t
+  pub priorityKept : (s : Scheduler) → Steady s → (t p : ℕ) → t < nobody → threadAt s t .created ≡ true → readyb (threadAt s t) ≡ false
+      → (q : Place) → lineAt (priorityChanged s t p) q ≡ lineAt s q
+  -- preemption change moves nobody, and neither does the choice
+  pub preemptionLine : (s : Scheduler) → Steady s → (t h : ℕ) → t < nobody → threadAt s t .created ≡ true → (q : Place) → lineAt (preemptionChanged s t h) q ≡ lineAt s q
   pub choiceLine : (s : Scheduler) → Steady s → (b : Bool) (p : Place) → lineAt (rescheduled s b) p ≡ lineAt s p
   -- ---- first come, first served: an order that begins with r still does, less the moved thread
   -- after a move to the end of any place, or out of every order

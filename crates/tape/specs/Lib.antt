@@ -1,2 +1,3 @@
 pub mod Tapes
 pub mod Replies
+pub mod Cases

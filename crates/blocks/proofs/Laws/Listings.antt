@@ -8,7 +8,7 @@ use native.Mathlib.Omega.{arith}
 use lib.ListN.{length, take, drop, getD, set, length-take}
 use lib.Seq.{getD-take, getD-set-same, getD-set-other}
 use lib.Dec.{eqb, ltb, leb}
-use borrow.Author.Tests.{ltb-true, lt-ltb, leb-true, le-leb, eqb-true, eq-eqb, ne-eqb}
+use borrow.Author.Tests.{ltb-true, leb-true, le-leb, eqb-true, eq-eqb, ne-eqb}
 use Rattle.lines.specs.Logic.{oneIf}
 use Rattle.lines.specs.Lists.{count, below}
 use Rattle.lines.proofs.Laws.Logic.{by-test, by-eq, and-left, and-right, and-in, one-at-most, all-at, all-in}
@@ -23,14 +23,6 @@ unfolding below
 below-at n [] e i h = absurd (not-suc-le-zero h)
 below-at n (x ∷ xs) e zero h = ltb-true x n (and-left (ltb x n) (below n xs) e)
 below-at n (x ∷ xs) e (suc i) h = below-at n xs (and-right (ltb x n) (below n xs) e) i (le-of-suc-le-suc h)
-
-pub below-all : (n : ℕ) (xs : List ℕ) → ((i : ℕ) → i < length xs → getD xs i 0 < n) → below n xs ≡ true
-unfolding below
-below-all n [] h = refl
-below-all n (x ∷ xs) h =
-    and-in (ltb x n) (below n xs)
-    (lt-ltb x n (h 0 (omega arith)))
-    (below-all n xs (λ i l. h (suc i) (let z : i < length xs = l in omega arith)))
 
 -- ---- counting
 pub count-small : (t : ℕ) (xs : List ℕ) → count t xs ≤ length xs

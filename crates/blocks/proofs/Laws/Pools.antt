@@ -16,8 +16,8 @@ use Rattle.lines.proofs.Laws.Lists.{below-out, below-in, at-most, count-here, c
 use Rattle.lines.proofs.Laws.Lines.{take-pad, pad-take, length-pad, getD-pad}
 use Rattle.blocks.specs.declared.pool.Pool.{Pool}
 use Rattle.lines.specs.Slots.{zeroFrom}
-use Rattle.blocks.specs.Pools.{noPool, blocksOf, freeBlocks, blockSizesb, poolLimitsb, onceb, listingb, listFitb, poolZerob, poolFitb, listing, freshPool, usedb, nextBlock, withoutNext, withFree}
-use Rattle.lines.proofs.Laws.Slots.{none-used, all-zero, zero-in, take-again, drop-most, part}
+use Rattle.blocks.specs.Pools.{noPool, blocksOf, freeBlocks, blockSizesb, poolLimitsb, onceb, listingb, listFitb, poolZerob, poolFitb, listing, freshPool, usedb, nextBlock, withoutNext, withFree, PoolClaims}
+use Rattle.lines.proofs.Laws.Slots.{none-used, zero-in, take-again, drop-most, part}
 use Rattle.blocks.proofs.Laws.Listings.{count-left, first-rest}
 
 pub none-fit : poolFitb noPool ≡ true
@@ -43,19 +43,6 @@ unfolding poolZerob
 zero-list p =
     none-used (fieldsZero p) (p .free) (p .list)
     (λ e. eqb-true (p .free) 0 (and-right (eqb (p .block) 0 && eqb (p .total) 0) (eqb (p .free) 0) e))
-
--- there is one fit record that is not created
-pub uncreated-none : (p : Pool) → length (p .list) ≡ 64 → poolFitb p ≡ true → p .created ≡ false → p ≡ noPool
-unfolding noPool poolZerob
-uncreated-none p l e u =
-    let z : (fieldsZero p && zeroFrom 0 (p .list)) ≡ true = sym (fit-uncreated p u) ∙ e in
-    let f = and-left (fieldsZero p) (zeroFrom 0 (p .list)) z in
-    let bt = and-left (eqb (p .block) 0 && eqb (p .total) 0) (eqb (p .free) 0) f in
-    let a = eqb-true (p .block) 0 (and-left (eqb (p .block) 0) (eqb (p .total) 0) bt) in
-    let b = eqb-true (p .total) 0 (and-right (eqb (p .block) 0) (eqb (p .total) 0) bt) in
-    let c = eqb-true (p .free) 0 (and-right (eqb (p .block) 0 && eqb (p .total) 0) (eqb (p .free) 0) f) in
-    let d = all-zero (p .list) l (and-right (fieldsZero p) (zeroFrom 0 (p .list)) z) in
-    λ i. record { created = u i; block = a i; total = b i; free = c i; list = d i }
 
 -- ---- what fit sizes say
 module _ (block total : ℕ) (e : blockSizesb block total ≡ true) where
@@ -120,9 +107,6 @@ module _ (p : Pool) (e : poolFitb p ≡ true) (u : p .created ≡ true) where
   unfolding listingb
   listed = and-right room (listingb p) (and-left (room && listingb p) tail lists)
 
-  pub fit-block : (p .block % 4 ≡ 0) × (4 ≤ p .block) × (p .block ≤ 256)
-  fit-block = sizes-block (p .block) (p .total) fit-sizes
-
   pub fit-blocks : (1 ≤ blocksOf p) × (blocksOf p ≤ 64)
   unfolding blocksOf
   fit-blocks = sizes-blocks (p .block) (p .total) fit-sizes
@@ -132,9 +116,6 @@ module _ (p : Pool) (e : poolFitb p ≡ true) (u : p .created ≡ true) where
 
   pub fit-below : below (blocksOf p) (freeBlocks p) ≡ true
   fit-below = and-left (below (blocksOf p) (freeBlocks p)) (onceb (freeBlocks p)) listed
-
-  pub fit-list : zeroFrom (p .free) (p .list) ≡ true
-  fit-list = and-right (room && listingb p) tail lists
 
   -- no number but those of the pool's blocks is listed
   pub fit-out : (n : ℕ) → blocksOf p ≤ n → count n (freeBlocks p) ≡ 0
@@ -276,14 +257,6 @@ module _ (block total : ℕ) (e : blockSizesb block total ≡ true) where
       ∙ length-numbers 0 (total / (block + 4))
       ∙ sym (alike-blocks (listing bare all) bare (listing-alike bare all))
 
-  pub fresh-some : 0 < freshPool block total .free
-  unfolding freshPool blocksOf
-  fresh-some =
-      let f = listing-free bare all (listing-room bare refl e all (numbers-once 0 (total / (block + 4))) past) in
-      let n = length-numbers 0 (total / (block + 4)) in
-      let b = sizes-blocks block total e .0 in
-      omega (arith, f, n, b)
-
 -- ---- a block is given, or is free again
 module _ (p : Pool) (e : poolFitb p ≡ true) (u : p .created ≡ true) where
   left-once : (t : ℕ) → count t (drop 1 (freeBlocks p)) ≤ 1
@@ -368,14 +341,14 @@ module _ (p : Pool) (e : poolFitb p ≡ true) (u : p .created ≡ true) where
         omega (arith, a, b)
 
     module _ (h : 0 < p .free) where
-      pub next-first : freeBlocks p ≡ nextBlock p ∷ drop 1 (freeBlocks p)
+      next-first : freeBlocks p ≡ nextBlock p ∷ drop 1 (freeBlocks p)
       unfolding nextBlock
       next-first = first-rest (freeBlocks p) 64 (let a = fit-length p e u l in omega (arith, a, h))
 
       next-twice : count (nextBlock p) (freeBlocks p) ≡ suc (count (nextBlock p) (drop 1 (freeBlocks p)))
       next-twice = ap (count (nextBlock p)) next-first ∙ count-here (nextBlock p) (drop 1 (freeBlocks p))
 
-      pub next-below : nextBlock p < blocksOf p
+      next-below : nextBlock p < blocksOf p
       next-below =
           by-test (ltb (nextBlock p) (blocksOf p))
           (λ q. ltb-true (nextBlock p) (blocksOf p) q)
@@ -392,3 +365,6 @@ module _ (p : Pool) (e : poolFitb p ≡ true) (u : p .created ≡ true) where
           (lt-ltb (nextBlock p) (blocksOf (withoutNext p)) (omega (arith, b, r)))
           (eq-eqb (count (nextBlock p) (freeBlocks (withoutNext p))) 0
           (ap (count (nextBlock p)) without-blocks ∙ (let z : count (nextBlock p) (drop 1 (freeBlocks p)) ≡ 0 = omega (arith, c, o) in z)))
+
+pub pools : PoolClaims
+pools = record { given = next-used; released = with-unused; lastFirst = with-next }

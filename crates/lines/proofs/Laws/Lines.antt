@@ -9,12 +9,12 @@ use native.Mathlib.Numerals.{add-one}
 use lib.ListN.{length, take, drop, getD, set, replicate, length-append, length-take}
 use lib.Dec.{eqb, ltb, leb}
 use lib.Seq.{take-suc, take-all, take-append-le, take-nil, getD-take, drop-cons, drop-length, length-take-le}
-use borrow.Author.Tests.{eqb-true, eq-eqb, leb-true, le-leb, ltb-true, ltb-false}
+use borrow.Author.Tests.{eq-eqb, le-leb, ltb-false}
 use Rattle.lines.specs.declared.Line.{Line}
 use Rattle.lines.specs.Logic.{allBelow}
 use Rattle.lines.specs.Lists.{filter, without}
 use Rattle.lines.specs.Lines.{members, pad, lineOf, cleanb}
-use Rattle.lines.proofs.Laws.Logic.{by-test, and-left, and-right, and-in, or-left, or-right, or-rest, all-at, all-in}
+use Rattle.lines.proofs.Laws.Logic.{by-test, and-in, or-left, or-right, all-in}
 use Rattle.lines.proofs.Laws.Lists.{filter-yes, filter-no, filter-append, without-keep, without-skip}
 
 -- ---- slots
@@ -71,26 +71,6 @@ unfolding pad
 set-pad zero xs t h = absurd (not-suc-le-zero h)
 set-pad (suc n) [] t h = refl
 set-pad (suc n) (x ∷ xs) t h = ap {B = List ℕ} (λ r. x ∷ r) (set-pad n xs t (le-of-suc-le-suc h))
-
--- only the first n count, also where more is added
-take-more : (n : ℕ) (xs ys : List ℕ) → take n (take n xs ++ ys) ≡ take n (xs ++ ys)
-take-more zero xs ys = refl
-take-more (suc n) [] ys = refl
-take-more (suc n) (x ∷ xs) ys = ap {B = List ℕ} (λ r. x ∷ r) (take-more n xs ys)
-
--- slots that are zero behind the first k
-pad-zeros : (n k : ℕ) (xs : List ℕ) → length xs ≡ n → ((i : ℕ) → k ≤ i → i < n → getD xs i 0 ≡ 0) → xs ≡ pad n (take k xs)
-unfolding pad
-pad-zeros zero k [] e h = refl
-pad-zeros zero k (x ∷ xs) e h = absurd (let z : suc (length xs) ≡ 0 = e in omega arith)
-pad-zeros (suc n) k [] e h = absurd (let z : 0 ≡ suc n = e in omega arith)
-pad-zeros (suc n) zero (x ∷ xs) e h =
-    let r = pad-zeros n zero xs (let z : suc (length xs) ≡ suc n = e in omega arith) (λ i l g. h (suc i) (omega arith) (omega (arith, g))) in
-    let z : x ≡ 0 = h 0 (omega arith) (omega arith) in
-    λ j. z j ∷ r j
-pad-zeros (suc n) (suc k) (x ∷ xs) e h =
-    ap {B = List ℕ} (λ r. x ∷ r)
-    (pad-zeros n k xs (let z : suc (length xs) ≡ suc n = e in omega arith) (λ i l g. h (suc i) (omega (arith, l)) (omega (arith, g))))
 
 zeros-pad : (n : ℕ) (xs : List ℕ) (i : ℕ) → length (take n xs) ≤ i → getD (pad n xs) i 0 ≡ 0
 unfolding pad
@@ -202,22 +182,6 @@ back-start n xs h =
     ap (λ (k : ℕ). drop k (take n xs)) (sym d) ∙ drop-length (take n xs)
 
 -- ---- clean lines
-pub clean-tested : (l : Line) → length (l .ids) ≡ 32 → cleanb l ≡ true → l ≡ lineOf (members l)
-unfolding cleanb lineOf members
-clean-tested l e h =
-    let n = leb-true (l .len) 32 (and-left (leb (l .len) 32) (allBelow 32 slots) h) in
-    let z : (i : ℕ) → l .len ≤ i → i < 32 → getD (l .ids) i 0 ≡ 0 = λ i a b.
-    eqb-true (getD (l .ids) i 0) 0 (or-rest (ltb i (l .len)) (eqb (getD (l .ids) i 0) 0) (all-at 32 slots (and-right (leb (l .len) 32) (allBelow 32 slots) h) i b) (go i a)) in
-    let q = pad-zeros 32 (l .len) (l .ids) e z in
-    let m : l .len ≡ length (take 32 (take (l .len) (l .ids))) = (let a = length-take 32 (take (l .len) (l .ids)) in let b = length-take (l .len) (l .ids) in omega (arith, a, b, n, e)) in
-    λ j. record { ids = q j; len = m j }
-  where
-    slots : ℕ → Bool
-    slots j = ltb j (l .len) || eqb (getD (l .ids) j 0) 0
-
-    go : (i : ℕ) → l .len ≤ i → ltb i (l .len) ≡ false
-    go i a = by-test (ltb i (l .len)) (λ q. absurd (let w = ltb-true i (l .len) q in omega (arith, w, a))) (λ q. q)
-
 pub lineOf-clean : (xs : List ℕ) → cleanb (lineOf xs) ≡ true
 unfolding cleanb lineOf
 lineOf-clean xs =

@@ -42,10 +42,6 @@ pub and-in : (a b : Bool) → a ≡ true → b ≡ true → (a && b) ≡ true
 and-in true b p q = q
 and-in false b p q = p
 
-pub and-twice : (a b : Bool) → (a && (a && b)) ≡ (a && b)
-and-twice true b = refl
-and-twice false b = refl
-
 pub or-left : (a b : Bool) → a ≡ true → (a || b) ≡ true
 or-left true b e = refl
 or-left false b e = never e refl

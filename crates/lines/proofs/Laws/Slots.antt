@@ -5,13 +5,13 @@ use mathlib.Core.Bool.{Bool, true, false, _&&_, _||_}
 use Prim.Native.Nat.{ℕ, zero, suc, _+_, _-_, _*_, _≤_, _<_, min}
 use native.Mathlib.Nat.{mul-le-mul, zero-min, suc-min-suc, sub-zero, zero-sub, suc-sub-suc}
 use native.Mathlib.Omega.{arith}
-use lib.ListN.{length, take, drop, getD, replicate, length-take, length-replicate, getD-replicate}
-use lib.Seq.{take-nil, drop-nil, ext-getD, getD-append-add}
+use lib.ListN.{length, take, drop, getD, length-take}
+use lib.Seq.{take-nil, drop-nil, getD-append-add}
 use lib.Bits.{bitOr, and-le-l, and-le-r, or-add-and}
 use lib.Dec.{eqb, ltb}
 use borrow.Author.Tests.{eqb-true, eq-eqb, lt-ltb, le-ltb, ltb-true, ltb-false}
 use Rattle.lines.specs.Logic.{allBelow}
-use Rattle.lines.proofs.Laws.Logic.{by-test, and-left, and-right, and-in, or-left, or-right, or-rest, all-at, all-in, all-more}
+use Rattle.lines.proofs.Laws.Logic.{by-test, and-left, and-right, and-in, or-left, or-right, all-in, all-more}
 use Rattle.lines.specs.Slots.{zeroFrom}
 
 -- two tests that follow from each other are the same
@@ -66,10 +66,6 @@ module _ (n : ℕ) (xs : List ℕ) where
   abbrev clean : ℕ → Bool
   clean i = ltb i n || eqb (getD xs i 0) 0
 
-  pub zero-at : zeroFrom n xs ≡ true → (i : ℕ) → n ≤ i → i < 64 → getD xs i 0 ≡ 0
-  unfolding zeroFrom
-  zero-at e i l h = eqb-true (getD xs i 0) 0 (or-rest (ltb i n) (eqb (getD xs i 0) 0) (all-at 64 clean e i h) (le-ltb i n l))
-
   pub zero-in : ((i : ℕ) → n ≤ i → i < 64 → getD xs i 0 ≡ 0) → zeroFrom n xs ≡ true
   unfolding zeroFrom
   zero-in h =
@@ -77,12 +73,6 @@ module _ (n : ℕ) (xs : List ℕ) where
       (λ i l. by-test (ltb i n)
       (λ q. or-left (ltb i n) (eqb (getD xs i 0) 0) q)
       (λ q. or-right (ltb i n) (eqb (getD xs i 0) 0) (eq-eqb (getD xs i 0) 0 (h i (ltb-false i n q) l))))
-
--- slots that are all zero
-pub all-zero : (xs : List ℕ) → length xs ≡ 64 → zeroFrom 0 xs ≡ true → xs ≡ replicate 64 0
-all-zero xs e z =
-    ext-getD 0 xs (replicate 64 0) (e ∙ sym (length-replicate {A = ℕ} 64 0))
-    (λ i l. zero-at 0 xs z i (omega arith) (omega (arith, e, l)) ∙ sym (getD-replicate 64 i 0 0 (omega (arith, e, l))))
 
 -- where nothing is in use, what is behind it is all
 pub none-used : (a : Bool) (n : ℕ) (xs : List ℕ) → (a ≡ true → n ≡ 0) → (a && zeroFrom n xs) ≡ (a && zeroFrom 0 xs)

@@ -1,31 +1,26 @@
 -- Laws of a queue's record.
-use mathlib.Core.Path.{_≡_, refl, sym, ap, ap₂, _∙_}
+use mathlib.Core.Path.{_≡_, refl, sym, ap, _∙_}
 use mathlib.Core.List.{List, [], _++_}
 use mathlib.Core.Bool.{Bool, true, false, _&&_, and-true, and-false}
 use Prim.Native.Nat.{ℕ, zero, suc, _+_, _-_, _*_, _/_, _≤_, _<_, min}
 use native.Mathlib.Omega.{arith}
-use native.Mathlib.Nat.{div-zero, div-le-self, zero-mul, suc-mul, add-comm, div-mul-le-self, mul-le-mul-right, le-trans}
+use native.Mathlib.Nat.{div-le-self, zero-mul, suc-mul, add-comm, le-trans}
 use native.Mathlib.Numerals.{add-one}
 use lib.ListN.{length, take, drop, getD, length-take, length-drop, length-append, getD-replicate, List·getD-eq-default}
 use lib.Seq.{length-take-le, take-take}
 use lib.Dec.{eqb, leb}
-use borrow.Author.Tests.{eqb-true, eqb-false, eq-eqb, ne-eqb, leb-true, le-leb, ltb-true, ltb-false, lt-ltb}
+use borrow.Author.Tests.{eqb-true, eqb-false, eq-eqb, leb-true, le-leb, ltb-true, ltb-false, lt-ltb}
 use Rattle.lines.specs.Logic.{allBelow}
 use Rattle.lines.proofs.Laws.Logic.{by-test, by-eq, by-choice, and-left, and-right, and-in}
 use Rattle.lines.proofs.Laws.Lines.{getD-pad}
 use Rattle.objects.specs.declared.queue.Queue.{Queue}
 use Rattle.lines.specs.Slots.{zeroFrom}
 use Rattle.objects.specs.Queues.{noQueue, capacityOf, usedWords, sizesFitb, queueLimitsb, storeFitb, queueZerob, queueFitb, emptyb, fullb, roomb, emptyQueue, storedWords, storing, withoutOldest, withLast, withFirst, withSent, leftPast, flushed}
-use Rattle.lines.proofs.Laws.Slots.{none-used, all-zero, zero-in, take-most, drop-most, part}
+use Rattle.lines.proofs.Laws.Slots.{none-used, zero-in, take-most, drop-most, part}
 
 pub none-fit : queueFitb noQueue ≡ true
 unfolding queueFitb queueZerob noQueue zeroFrom allBelow
 none-fit = refl
-
--- messages of no words: none fits
-pub no-words : (q : Queue) → q .words ≡ 0 → capacityOf q ≡ 0
-unfolding capacityOf
-no-words q e = rw (e, div-zero)
 
 -- ---- which test a record takes
 pub fit-created : (q : Queue) → q .created ≡ true → queueFitb q ≡ (queueLimitsb q && storeFitb q)
@@ -46,19 +41,6 @@ unfolding queueZerob usedWords
 zero-store q =
     none-used (fieldsZero q) (q .stored * q .words) (q .store)
     (λ e. ap (λ (n : ℕ). n * q .words) (eqb-true (q .stored) 0 (and-right (eqb (q .words) 0 && eqb (q .storage) 0) (eqb (q .stored) 0) e)) ∙ zero-mul (q .words))
-
--- there is one fit record that is not created
-pub uncreated-none : (q : Queue) → length (q .store) ≡ 64 → queueFitb q ≡ true → q .created ≡ false → q ≡ noQueue
-unfolding noQueue queueZerob
-uncreated-none q l e u =
-    let z : (fieldsZero q && zeroFrom 0 (q .store)) ≡ true = sym (fit-uncreated q u) ∙ e in
-    let f = and-left (fieldsZero q) (zeroFrom 0 (q .store)) z in
-    let ws = and-left (eqb (q .words) 0 && eqb (q .storage) 0) (eqb (q .stored) 0) f in
-    let a = eqb-true (q .words) 0 (and-left (eqb (q .words) 0) (eqb (q .storage) 0) ws) in
-    let b = eqb-true (q .storage) 0 (and-right (eqb (q .words) 0) (eqb (q .storage) 0) ws) in
-    let c = eqb-true (q .stored) 0 (and-right (eqb (q .words) 0 && eqb (q .storage) 0) (eqb (q .stored) 0) f) in
-    let d = all-zero (q .store) l (and-right (fieldsZero q) (zeroFrom 0 (q .store)) z) in
-    λ i. record { created = u i; words = a i; storage = b i; stored = c i; store = d i }
 
 -- ---- what fit sizes say
 module _ (words storage : ℕ) (e : sizesFitb words storage ≡ true) where
@@ -109,12 +91,6 @@ module _ (q : Queue) (e : queueFitb q ≡ true) (u : q .created ≡ true) where
   unfolding queueLimitsb
   fit-sizes = and-left (queueLimitsb q) (storeFitb q) both
 
-  pub fit-words : (1 ≤ q .words) × (q .words ≤ 16)
-  fit-words = sizes-words (q .words) (q .storage) fit-sizes
-
-  pub fit-storage : (1 ≤ q .storage) × (q .storage ≤ 64)
-  fit-storage = sizes-storage (q .words) (q .storage) fit-sizes
-
   pub fit-room : 1 ≤ capacityOf q
   unfolding capacityOf
   fit-room = sizes-room (q .words) (q .storage) fit-sizes
@@ -124,15 +100,6 @@ module _ (q : Queue) (e : queueFitb q ≡ true) (u : q .created ≡ true) where
   fit-stored =
       leb-true (q .stored) (capacityOf q)
       (and-left (leb (q .stored) (capacityOf q)) (zeroFrom (usedWords q) (q .store)) (and-right (queueLimitsb q) (storeFitb q) both))
-
-  pub fit-store : zeroFrom (usedWords q) (q .store) ≡ true
-  unfolding storeFitb
-  fit-store = and-right (leb (q .stored) (capacityOf q)) (zeroFrom (usedWords q) (q .store)) (and-right (queueLimitsb q) (storeFitb q) both)
-
-  -- the messages lie within the storage, and so within the store
-  pub fit-used : usedWords q ≤ q .storage
-  unfolding usedWords capacityOf
-  fit-used = le-trans (mul-le-mul-right (q .words) fit-stored) (div-mul-le-self (q .storage) (q .words))
 
 -- ---- the words of the messages, as they are read from a store of 64
 module _ (q : Queue) (l : length (q .store) ≡ 64) (n : ℕ) (e : n ≡ min (usedWords q) 64) where
@@ -205,10 +172,6 @@ of-fit words storage e = fit-in (emptyQueue words storage) refl e (omega arith) 
 abbrev pub Alike : Queue → Queue → Type 0
 Alike r q = (r .created ≡ q .created) × (r .words ≡ q .words) × (r .storage ≡ q .storage)
 
-pub alike-capacity : (r q : Queue) → Alike r q → capacityOf r ≡ capacityOf q
-unfolding capacityOf
-alike-capacity r q a = ap₂ _/_ (a .2) (a .1)
-
 alike-then : (a b c : Queue) → Alike a b → Alike b c → Alike a c
 alike-then a b c f g = (f .0 ∙ g .0, f .1 ∙ g .1, f .2 ∙ g .2)
 
@@ -220,22 +183,10 @@ pub without-alike : (q : Queue) → Alike (withoutOldest q) q
 unfolding withoutOldest
 without-alike q = storing-alike q _ _
 
-pub flushed-alike : (q : Queue) → Alike (flushed q) q
-unfolding flushed
-flushed-alike q = storing-alike q _ _
-
 module _ (q : Queue) (m : List ℕ) where
   pub last-alike : Alike (withLast q m) q
   unfolding withLast
   last-alike = by-choice (λ (r : Queue). Alike r q) (roomb q) _ _ (λ w. storing-alike q _ _) (λ w. (refl, refl, refl))
-
-  pub first-alike : Alike (withFirst q m) q
-  unfolding withFirst
-  first-alike = by-choice (λ (r : Queue). Alike r q) (roomb q) _ _ (λ w. storing-alike q _ _) (λ w. (refl, refl, refl))
-
-  pub sent-alike : (front : Bool) → Alike (withSent q front m) q
-  unfolding withSent
-  sent-alike front = by-choice (λ (r : Queue). Alike r q) front _ _ (λ w. first-alike) (λ w. last-alike)
 
 pub past-alike : (q : Queue) (front : Bool) (m : List ℕ) → Alike (leftPast q front m) q
 unfolding leftPast
@@ -324,14 +275,6 @@ module _ (q : Queue) (e : queueFitb q ≡ true) (u : q .created ≡ true) where
       let a = ltb-false (q .stored) (capacityOf q) w in
       let b = fit-stored q e u in
       eq-eqb (q .stored) (capacityOf q) (omega (arith, a, b))
-
-  -- a full queue has a message
-  pub full-some : fullb q ≡ true → emptyb q ≡ false
-  unfolding fullb emptyb
-  full-some w =
-      let a = eqb-true (q .stored) (capacityOf q) w in
-      let b = fit-room q e u in
-      ne-eqb (q .stored) 0 (λ z. omega (arith, a, b, z))
 
   -- an empty queue has room
   pub empty-room : emptyb q ≡ true → roomb q ≡ true

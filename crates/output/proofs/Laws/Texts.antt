@@ -8,7 +8,7 @@ use lib.ListN.{length, take, drop, set, length-set}
 use lib.Seq.{sets, sets-eq, set-out}
 use lib.Dec.{ltb}
 use borrow.Author.Tests.{lt-ltb, le-ltb, ltb-true, ltb-false}
-use Rattle.output.specs.Texts.{placeOf, byteEnd, textEnd, textIn, Put}
+use Rattle.output.specs.Texts.{placeOf, byteEnd, textEnd, textIn, Put, TextClaims}
 
 -- ---- where a byte goes
 pub place-room : (size at : ℕ) → at < size → placeOf size at ≡ at
@@ -42,11 +42,6 @@ in-least buf at [] = refl
 in-least buf at (b ∷ bs) = ap₂ (λ (k j : ℕ). textIn (set buf k b) j bs) (place-least (length buf) at) (byte-least (length buf) at)
 
 -- ---- texts one after the other
-pub end-within : (size at : ℕ) (bs : List ℕ) → textEnd size at bs ≤ size
-unfolding textEnd
-end-within size at [] = omega arith
-end-within size at (b ∷ bs) = end-within size (byteEnd size at) bs
-
 pub length-in : (buf : List ℕ) (at : ℕ) (bs : List ℕ) → length (textIn buf at bs) ≡ length buf
 unfolding textIn
 length-in buf at [] = refl
@@ -118,3 +113,6 @@ in-sets buf at (b ∷ bs) h =
 
 pub in-room : (buf : List ℕ) (at : ℕ) (bs : List ℕ) → at + length bs ≤ length buf → textIn buf at bs ≡ take at buf ++ bs ++ drop (at + length bs) buf
 in-room buf at bs h = in-sets buf at bs h ∙ sets-eq bs buf at h
+
+pub texts : TextClaims
+texts = record { roomEnd = end-room; roomBytes = in-room }

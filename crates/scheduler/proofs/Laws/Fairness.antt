@@ -1,7 +1,7 @@
 -- An order that begins with a list of threads: what each move does to that beginning, whatever the kind of place.
 use mathlib.Core.Path.{_≡_, ap, _∙_}
 use mathlib.Core.List.{List, [], _∷_, append-nil}
-use mathlib.Core.Bool.{Bool, true, false}
+use mathlib.Core.Bool.{true, false}
 use Prim.Native.Nat.{ℕ, _<_}
 use native.Mathlib.Omega.{arith}
 use Rattle.lines.specs.Logic.{oneIf}
@@ -12,11 +12,9 @@ use Rattle.scheduler.specs.declared.thread.Thread.{Thread}
 use Rattle.scheduler.specs.declared.thread.Place.{Place}
 use Rattle.scheduler.specs.declared.Scheduler.{Scheduler}
 use Rattle.scheduler.specs.Threads.{placedb}
-use Rattle.scheduler.specs.Orders.{threadAt, lineAt, firstAt, withThread, moved, movedFront}
-use Rattle.scheduler.specs.Choice.{rescheduled}
+use Rattle.scheduler.specs.Orders.{threadAt, lineAt, firstAt, moved, movedFront}
 use Rattle.scheduler.specs.Sound.{fitb, Steady}
 use Rattle.scheduler.proofs.Laws.Orders
-use Rattle.scheduler.proofs.Laws.Choosing
 
 module _ (s : Scheduler) (S : Steady s) (p : Place) (r : List ℕ) (B : Begins r (lineAt s p)) where
   -- who stands elsewhere is not in the beginning
@@ -46,14 +44,6 @@ module _ (s : Scheduler) (S : Steady s) (p : Place) (r : List ℕ) (B : Begins r
       -- who leaves the place stands there no more
       pub moved-gone : placedb p th ≡ false → count t (lineAt (moved s t th) p) ≡ 0
       moved-gone h = rw (Orders.moved-line s S t th small f p, h, append-nil) (Lists.count-without t (lineAt s p))
-
-    -- a record that changes in place
-    pub kept-begins : placedb p th ≡ placedb p (threadAt s t) → Begins r (lineAt (withThread s t th) p)
-    kept-begins h = rw (Orders.kept-line s S t th small p h) B
-
-  -- the choice
-  pub rescheduled-begins : (b : Bool) → Begins r (lineAt (rescheduled s b) p)
-  rescheduled-begins b = rw (Choosing.rescheduled-line s S b p) B
 
 -- the first of the beginning is the first at the place, and when it moves on the rest begins the order
 module _ (s : Scheduler) (S : Steady s) (p : Place) (x : ℕ) (r : List ℕ) (B : Begins (x ∷ r) (lineAt s p)) where

@@ -37,9 +37,6 @@ module _ (s : Scheduler) (S : Steady s) where
       (λ l. ltb-true t 32 l)
       (λ l. never h (ap standsb (none-at s t (S .sized) (ltb-false t 32 l)) ∙ none-stands))
 
-  pub stands-once : (t : ℕ) → count t (members (s .order)) ≤ 1
-  stands-once t = let e = S .placed t in let o = one-at-most (standsb (threadAt s t)) in omega (arith, e, o)
-
   pub out-of-order : (t : ℕ) → 32 ≤ t → count t (members (s .order)) ≡ 0
   unfolding oneIf
   out-of-order t o = S .placed t ∙ ap (λ (th : Thread). oneIf (standsb th)) (none-at s t (S .sized) o) ∙ ap oneIf none-stands

@@ -224,10 +224,6 @@ mark-marked b th = refl
 
 -- ---- another priority and threshold
 module _ (p h : ℕ) (th : Thread) where
-  pub levels-ready : readyb (withLevels p h th) ≡ readyb th
-  unfolding withLevels readyb
-  levels-ready = refl
-
   pub levels-stands : standsb (withLevels p h th) ≡ standsb th
   unfolding withLevels standsb readyb waitsb
   levels-stands = refl

@@ -1,12 +1,11 @@
 -- Laws of tapes: words past the end, how many records and message words there are, and where each is.
 use mathlib.Core.Path.{_≡_, refl, sym, ap, ap₂, _∙_}
-use mathlib.Core.List.{List, [], _∷_, map}
+use mathlib.Core.List.{List, map}
 use mathlib.Core.Bool.{Bool, true, false, _||_, not}
 use Prim.Native.Nat.{ℕ, _+_, _≤_, _<_}
 use native.Mathlib.Omega.{arith}
-use native.Mathlib.Numerals.{add-one}
-use lib.ListN.{length, getD, take, drop, length-map, List·getD-eq-default, List·getD-map, drop-of-length-le}
-use lib.Seq.{drop-cons, take-all}
+use lib.ListN.{length, getD, take, length-map, List·getD-eq-default, List·getD-map}
+use lib.Seq.{take-all}
 use lib.Dec.{eqb, ltb}
 use borrow.Author.Tests.{ltb-false, eqb-true, not-false}
 use Rattle.lines.specs.Lists.{numbersFrom}
@@ -15,7 +14,7 @@ use Rattle.lines.proofs.Laws.Logic.{by-test, never}
 use Rattle.lines.proofs.Laws.Lists.{getD-any, length-numbers, number-at}
 use Rattle.lines.proofs.Laws.Lines.{take-pad, length-pad}
 use Rattle.tape.specs.declared.Record.{Record}
-use Rattle.tape.specs.Tapes.{wordAt, headerBytes, mostRecords, mostMessageWords, recordsSaid, recordsOffset, messagesSaid, messagesOffset, recordsEnd, tapeEnd, refusedb, countOf, messageCountOf, noRecord, recordAt, messageAt, recordsOf, messagesOf}
+use Rattle.tape.specs.Tapes.{wordAt, headerBytes, mostRecords, mostMessageWords, recordsSaid, recordsOffset, messagesSaid, messagesOffset, recordsEnd, tapeEnd, refusedb, countOf, messageCountOf, recordAt, messageAt, recordsOf, messagesOf}
 
 -- past the end there are zeros
 pub word-past : (bytes : List ℕ) (at : ℕ) → length bytes ≤ at → wordAt bytes at ≡ 0
@@ -113,15 +112,6 @@ module _ (bytes : List ℕ) where
   pub record-in : (i : ℕ) (r : Record) → i < countOf bytes → getD (recordsOf bytes) i r ≡ recordAt bytes i
   unfolding recordsOf
   record-in i r h = made-at (recordAt bytes) (countOf bytes) i r h
-
-  -- the next record, as a run takes it
-  pub record-next : (i : ℕ) → i < countOf bytes → drop i (recordsOf bytes) ≡ recordAt bytes i ∷ drop (i + 1) (recordsOf bytes)
-  record-next i h =
-      let l : i < length (recordsOf bytes) = let z = length-records in omega (arith, z) in
-      drop-cons (recordsOf bytes) i noRecord l ∙ ap₂ {C = List Record} (λ (x : Record) (k : ℕ). x ∷ drop k (recordsOf bytes)) (record-in i noRecord h) (sym (add-one i))
-
-  pub record-last : (i : ℕ) → countOf bytes ≤ i → drop i (recordsOf bytes) ≡ []
-  record-last i h = drop-of-length-le (recordsOf bytes) {i = i} (let z = length-records in omega (arith, z))
 
   pub length-messages : length (messagesOf bytes) ≡ messageCountOf bytes
   unfolding messagesOf
