@@ -20,31 +20,10 @@ abbrev μ-loop : tie.MeasureT-loop
 loop-holds : tie.Need-loop-holds Inv-loop μ-loop
 loop-holds c = (omega arith, pad-none 16)
 
-add-if1 : tie.Need-add-if1 Inv-loop μ-loop
-add-if1 c = search needs
-
-add-message : tie.Need-add-message Inv-loop μ-loop
-add-message c = search needs
-
-mul-message : tie.Need-mul-message Inv-loop μ-loop
-mul-message c = search needs
-
 shared-slice-read-message : tie.Need-shared-slice-read-message Inv-loop μ-loop
 shared-slice-read-message c =
     let a = c .before .before .before .before .args in
     in-area (a .area .now) (a .index) (a .words) (c .before .before .before .loop .i) (c .before .if1 .taken)
-
-mul-message-2 : tie.Need-mul-message-2 Inv-loop μ-loop
-mul-message-2 c = search needs
-
-array-write-message : tie.Need-array-write-message Inv-loop μ-loop
-array-write-message c = search needs
-
-add-i : tie.Need-add-i Inv-loop μ-loop
-add-i c = search needs
-
-loop-less : tie.Need-loop-less Inv-loop μ-loop
-loop-less c = search needs
 
 loop-again : tie.Need-loop-again Inv-loop μ-loop
 loop-again c =
@@ -68,17 +47,5 @@ returns c =
 pub message-in-spec : {M : Type 1} → statement M
 message-in-spec =
     tie.close
-    (tie.spec
-    Inv-loop
-    μ-loop
-    loop-holds
-    add-if1
-    add-message
-    mul-message
-    shared-slice-read-message
-    mul-message-2
-    array-write-message
-    add-i
-    loop-less
-    loop-again
-    returns)
+    (tie.spec Inv-loop μ-loop loop-holds (search needs) (search needs) (search needs) shared-slice-read-message (search needs) (search needs)
+    (search needs) (search needs) loop-again returns)

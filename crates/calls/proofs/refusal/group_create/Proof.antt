@@ -3,23 +3,6 @@ use Rattle.calls.specs.Refusals.{groupCreateRefusal}
 use Rattle.calls.proofs.refusal.group_create.Statement.{statement}
 use Rattle.calls.proofs.refusal.group_create.Tie as tie
 
-unless-requires : tie.Need-unless-requires
-unless-requires c κs = search needs
-
-unless-requires-2 : tie.Need-unless-requires-2
-unless-requires-2 c κs = search needs
-
-first-requires : tie.Need-first-requires
-first-requires c κs = search needs
-
-returns : tie.Need-returns
-unfolding groupCreateRefusal
-returns c =
-    rw (
-      ← c .before .before .unless .ensures,
-      ← c .before .unless2 .ensures,
-      ← c .first .ensures,
-    )
-
 pub group-create-spec : {M : Type 1} → statement M
-group-create-spec = tie.close (tie.spec unless-requires unless-requires-2 first-requires returns)
+unfolding groupCreateRefusal
+group-create-spec = tie.close (tie.spec (search needs) (search needs) (search needs) (λ c. cc))

@@ -1,25 +1,8 @@
 use borrow.Author.Needs.{needs}
-use Rattle.calls.specs.Refusals.{unless, resumeRefusal}
+use Rattle.calls.specs.Refusals.{resumeRefusal}
 use Rattle.calls.proofs.refusal.resume.Statement.{statement}
 use Rattle.calls.proofs.refusal.resume.Tie as tie
 
-unless-requires : tie.Need-unless-requires
-unless-requires c κs = search needs
-
-unless-requires-2 : tie.Need-unless-requires-2
-unless-requires-2 c κs = search needs
-
-first-requires : tie.Need-first-requires
-first-requires c κs = search needs
-
-returns : tie.Need-returns
-unfolding resumeRefusal
-returns c =
-    rw (
-      ← c .before .before .before .before .unless .ensures,
-      ← c .before .unless2 .ensures,
-      ← c .first .ensures,
-    )
-
 pub resume-spec : {M : Type 1} → statement M
-resume-spec = tie.close (tie.spec unless-requires unless-requires-2 first-requires returns)
+unfolding resumeRefusal
+resume-spec = tie.close (tie.spec (search needs) (search needs) (search needs) (λ c. cc))

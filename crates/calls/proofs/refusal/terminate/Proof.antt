@@ -1,25 +1,8 @@
 use borrow.Author.Needs.{needs}
-use Rattle.calls.specs.Refusals.{unless, terminateRefusal}
+use Rattle.calls.specs.Refusals.{terminateRefusal}
 use Rattle.calls.proofs.refusal.terminate.Statement.{statement}
 use Rattle.calls.proofs.refusal.terminate.Tie as tie
 
-unless-requires : tie.Need-unless-requires
-unless-requires c κs = search needs
-
-unless-requires-2 : tie.Need-unless-requires-2
-unless-requires-2 c κs = search needs
-
-first-requires : tie.Need-first-requires
-first-requires c κs = search needs
-
-returns : tie.Need-returns
-unfolding terminateRefusal
-returns c =
-    rw (
-      ← c .before .before .unless .ensures,
-      ← c .before .unless2 .ensures,
-      ← c .first .ensures,
-    )
-
 pub terminate-spec : {M : Type 1} → statement M
-terminate-spec = tie.close (tie.spec unless-requires unless-requires-2 first-requires returns)
+unfolding terminateRefusal
+terminate-spec = tie.close (tie.spec (search needs) (search needs) (search needs) (λ c. cc))
