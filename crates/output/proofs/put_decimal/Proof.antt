@@ -5,21 +5,6 @@ use Rattle.output.proofs.Laws.Decimals.{digits-all}
 use Rattle.output.proofs.put_decimal.Statement.{statement}
 use Rattle.output.proofs.put_decimal.Tie as tie
 
-decimal-requires : tie.Need-decimal-requires
-decimal-requires c κs = search needs
-
-array-share-prefix-text : tie.Need-array-share-prefix-text
-array-share-prefix-text c = search needs
-
-slice-aggregate-put-text : tie.Need-slice-aggregate-put-text
-slice-aggregate-put-text c = search needs
-
-put-text-requires : tie.Need-put-text-requires
-put-text-requires c κs = search needs
-
-same-length : tie.Need-same-length
-same-length c = search needs
-
 returns : tie.Need-returns
 returns c =
     let d = c .before .before .before .before .before .decimal .ensures in
@@ -27,12 +12,4 @@ returns c =
     rw (d .1 .1 ∙ digits-all (c .before .before .before .before .before .decimal .result) (c .before .before .before .before .before .before .before .before .args .n) n (d .1 .0)) at (c .before .before .put-text .ensures)
 
 pub put-decimal-spec : {M : Type 1} → statement M
-put-decimal-spec =
-    tie.close
-    (tie.spec
-    decimal-requires
-    array-share-prefix-text
-    slice-aggregate-put-text
-    put-text-requires
-    same-length
-    returns)
+put-decimal-spec = tie.close (tie.spec (search needs) (search needs) (search needs) (search needs) (search needs) returns)

@@ -17,25 +17,10 @@ Inv-loop buf₀ at text to₀ i₀ buf to i = (i ≤ length text) × (length buf
 abbrev μ-loop : tie.MeasureT-loop
 μ-loop buf₀ at text to₀ i₀ buf to i = length text - i
 
-least-requires : tie.Need-least-requires Inv-loop μ-loop
-least-requires c κs = search needs
-
 loop-holds : tie.Need-loop-holds Inv-loop μ-loop
 loop-holds c =
     let a = c .before .before .before .args in
     (omega arith, refl, rw (c .least .ensures) (put-none (a .buf .now) (a .at)))
-
-shared-slice-read-put-byte : tie.Need-shared-slice-read-put-byte Inv-loop μ-loop
-shared-slice-read-put-byte c = search needs
-
-put-byte-requires : tie.Need-put-byte-requires Inv-loop μ-loop
-put-byte-requires c κs = search needs
-
-add-i : tie.Need-add-i Inv-loop μ-loop
-add-i c = search needs
-
-loop-less : tie.Need-loop-less Inv-loop μ-loop
-loop-less c = search needs
 
 loop-again : tie.Need-loop-again Inv-loop μ-loop
 loop-again c =
@@ -44,9 +29,6 @@ loop-again c =
     let h : l .i < length (a .text .now) = omega arith in
     let p = put-append (a .buf .now) (l .buf) (c .before .before .put-byte .last .0) (a .at) (l .to) (c .before .before .put-byte .result) (take (l .i) (a .text .now)) (getD (a .text .now) (l .i) 0 ∷ []) (l .inv .2) (c .before .before .put-byte .ensures) in
     (omega arith, c .before .before .put-byte .kept .0 ∙ l .inv .1, rw (add-one, take-suc (a .text .now) (l .i) 0 h) p)
-
-same-length : tie.Need-same-length Inv-loop μ-loop
-same-length c = search needs
 
 returns : tie.Need-returns Inv-loop μ-loop
 returns c =
@@ -57,15 +39,4 @@ returns c =
 pub put-text-spec : {M : Type 1} → statement M
 put-text-spec =
     tie.close
-    (tie.spec
-    Inv-loop
-    μ-loop
-    least-requires
-    loop-holds
-    shared-slice-read-put-byte
-    put-byte-requires
-    add-i
-    loop-less
-    loop-again
-    same-length
-    returns)
+    (tie.spec Inv-loop μ-loop (search needs) loop-holds (search needs) (search needs) (search needs) (search needs) loop-again (search needs) returns)

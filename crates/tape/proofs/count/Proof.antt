@@ -3,12 +3,6 @@ use Rattle.tape.specs.Tapes.{countOf}
 use Rattle.tape.proofs.count.Statement.{statement}
 use Rattle.tape.proofs.count.Tie as tie
 
-is-refused-requires : tie.Need-is-refused-requires
-is-refused-requires c κs = search needs
-
-word-requires : tie.Need-word-requires
-word-requires c κs = search needs
-
 returns : tie.Need-returns
 unfolding countOf
 returns c = rw (← c .before .is-refused .ensures, c .if1 .taken)
@@ -18,4 +12,4 @@ unfolding countOf
 returns-2 c = rw (← c .before .before .is-refused .ensures, c .before .if1 .left) (c .word .ensures)
 
 pub count-spec : {M : Type 1} → statement M
-count-spec = tie.close (tie.spec is-refused-requires word-requires returns returns-2)
+count-spec = tie.close (tie.spec (search needs) (search needs) returns returns-2)

@@ -17,45 +17,15 @@ Inv-loop bytes n m start words₀ i₀ words i = (i ≤ m) × (m ≤ 4000) × (w
 abbrev μ-loop : tie.MeasureT-loop
 μ-loop bytes n m start words₀ i₀ words i = m - i
 
-count-requires : tie.Need-count-requires Inv-loop μ-loop
-count-requires c κs = search needs
-
-message-count-requires : tie.Need-message-count-requires Inv-loop μ-loop
-message-count-requires c κs = search needs
-
-cast-m : tie.Need-cast-m Inv-loop μ-loop
-cast-m c = search needs
-
-records-end-requires : tie.Need-records-end-requires Inv-loop μ-loop
-records-end-requires c κs = search needs
-
 loop-holds : tie.Need-loop-holds Inv-loop μ-loop
 loop-holds c =
     let most = messages-most (c .before .before .before .before .args .bytes .now) in
     let g = c .before .message-count .ensures in
     (omega arith, omega (arith, g, most), pad-none 4000)
 
-mul-word : tie.Need-mul-word Inv-loop μ-loop
-mul-word c = search needs
-
 add-word : tie.Need-add-word Inv-loop μ-loop
 unfolding recordsEnd
 add-word c = let most = count-most (c .before .before .before .before .before .before .args .bytes .now) in omega (arith, c .before .before .records-end .ensures, c .before .before .before .before .count .ensures, most)
-
-word-requires : tie.Need-word-requires Inv-loop μ-loop
-word-requires c κs = search needs
-
-mul-words : tie.Need-mul-words Inv-loop μ-loop
-mul-words c = search needs
-
-array-write-words : tie.Need-array-write-words Inv-loop μ-loop
-array-write-words c = search needs
-
-add-i : tie.Need-add-i Inv-loop μ-loop
-add-i c = search needs
-
-loop-less : tie.Need-loop-less Inv-loop μ-loop
-loop-less c = search needs
 
 loop-again : tie.Need-loop-again Inv-loop μ-loop
 unfolding messageAt tapeEnd recordsEnd
@@ -79,20 +49,5 @@ returns c =
 pub messages-spec : {M : Type 1} → statement M
 messages-spec =
     tie.close
-    (tie.spec
-    Inv-loop
-    μ-loop
-    count-requires
-    message-count-requires
-    cast-m
-    records-end-requires
-    loop-holds
-    mul-word
-    add-word
-    word-requires
-    mul-words
-    array-write-words
-    add-i
-    loop-less
-    loop-again
-    returns)
+    (tie.spec Inv-loop μ-loop (search needs) (search needs) (search needs) (search needs) loop-holds (search needs) add-word (search needs)
+    (search needs) (search needs) (search needs) (search needs) loop-again returns)

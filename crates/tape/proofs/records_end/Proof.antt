@@ -4,15 +4,9 @@ use Rattle.tape.specs.Tapes.{recordsEnd}
 use Rattle.tape.proofs.records_end.Statement.{statement}
 use Rattle.tape.proofs.records_end.Tie as tie
 
-mul-result : tie.Need-mul-result
-mul-result c = search needs
-
-add-result : tie.Need-add-result
-add-result c = search needs
-
 returns : tie.Need-returns
 unfolding recordsEnd
 returns c = refl
 
 pub records-end-spec : {M : Type 1} → statement M
-records-end-spec = tie.close (tie.spec mul-result add-result returns)
+records-end-spec = tie.close (tie.spec (search needs) (search needs) returns)

@@ -7,18 +7,6 @@ use Rattle.lines.proofs.Laws.Lines.{length-members}
 use Rattle.text.proofs.put_line.Statement.{statement}
 use Rattle.text.proofs.put_line.Tie as tie
 
-size-requires : tie.Need-size-requires
-size-requires c κs = search needs
-
-cast-n : tie.Need-cast-n
-cast-n c = search needs
-
-slice-aggregate-put-text : tie.Need-slice-aggregate-put-text
-slice-aggregate-put-text c = search needs
-
-put-text-requires : tie.Need-put-text-requires
-put-text-requires c κs = search needs
-
 array-share-prefix-ids : tie.Need-array-share-prefix-ids
 array-share-prefix-ids c =
     let e : length (c .before .before .before .before .before .before .before .before .before .args .l .ids) ≡ 32 = search needs in
@@ -31,29 +19,8 @@ slice-aggregate-put-numbers c =
     let w = length-members (c .before .before .before .before .before .before .before .before .before .before .args .l) e in
     sym (length-take-le (c .before .before .before .before .before .before .before .size .result) (c .before .before .before .before .before .before .before .before .before .before .args .l .ids) (omega (arith, c .before .before .before .before .before .before .before .size .ensures, w, e)))
 
-put-numbers-requires : tie.Need-put-numbers-requires
-put-numbers-requires c κs = search needs
-
-put-byte-requires : tie.Need-put-byte-requires
-put-byte-requires c κs = search needs
-
-same-length : tie.Need-same-length
-same-length c = search needs
-
-returns : tie.Need-returns
-returns c = search needs
-
 pub put-line-spec : {M : Type 1} → statement M
 put-line-spec =
     tie.close
-    (tie.spec
-    size-requires
-    cast-n
-    slice-aggregate-put-text
-    put-text-requires
-    array-share-prefix-ids
-    slice-aggregate-put-numbers
-    put-numbers-requires
-    put-byte-requires
-    same-length
-    returns)
+    (tie.spec (search needs) (search needs) (search needs) (search needs) array-share-prefix-ids slice-aggregate-put-numbers (search needs)
+    (search needs) (search needs) (search needs))

@@ -5,15 +5,6 @@ use Rattle.lines.proofs.Laws.Slots.{getD-behind}
 use Rattle.blocks.proofs.pool.block_in.Statement.{statement}
 use Rattle.blocks.proofs.pool.block_in.Tie as tie
 
-shared-slice-read-result : tie.Need-shared-slice-read-result
-shared-slice-read-result c = search needs
-
-sub-j : tie.Need-sub-j
-sub-j c = search needs
-
-shared-slice-read-result-2 : tie.Need-shared-slice-read-result-2
-shared-slice-read-result-2 c = search needs
-
 returns : tie.Need-returns
 returns c =
     let a = c .before .before .args in
@@ -30,12 +21,4 @@ returns-3 c =
     sym (getD-behind (a .front .now) (a .back .now) (a .i) (c .before .if1 .left) ∙ List·getD-eq-default (a .back .now) 0 (c .if2 .left))
 
 pub block-in-spec : {M : Type 1} → statement M
-block-in-spec =
-    tie.close
-    (tie.spec
-    shared-slice-read-result
-    sub-j
-    shared-slice-read-result-2
-    returns
-    returns-2
-    returns-3)
+block-in-spec = tie.close (tie.spec (search needs) (search needs) (search needs) returns returns-2 returns-3)

@@ -5,15 +5,6 @@ use lib.ListN.{length-take, length-append}
 use Rattle.blocks.proofs.pool.count_in.Statement.{statement}
 use Rattle.blocks.proofs.pool.count_in.Tie as tie
 
-sub-room : tie.Need-sub-room
-sub-room c = search needs
-
-add-result : tie.Need-add-result
-add-result c = search needs
-
-cast-result : tie.Need-cast-result
-cast-result c = search needs
-
 returns : tie.Need-returns
 returns c =
     let a = c .before .before .args in
@@ -36,4 +27,4 @@ returns-3 c =
     omega (arith, t, e, c .if1 .left)
 
 pub count-in-spec : {M : Type 1} → statement M
-count-in-spec = tie.close (tie.spec sub-room add-result cast-result returns returns-2 returns-3)
+count-in-spec = tie.close (tie.spec (search needs) (search needs) (search needs) returns returns-2 returns-3)

@@ -18,18 +18,6 @@ abbrev μ-loop : tie.MeasureT-loop
 loop-holds : tie.Need-loop-holds Inv-loop μ-loop
 loop-holds c = (omega arith, pad-none 64)
 
-block-in-requires : tie.Need-block-in-requires Inv-loop μ-loop
-block-in-requires c κs = search needs
-
-array-write-list : tie.Need-array-write-list Inv-loop μ-loop
-array-write-list c = search needs
-
-add-i : tie.Need-add-i Inv-loop μ-loop
-add-i c = search needs
-
-loop-less : tie.Need-loop-less Inv-loop μ-loop
-loop-less c = search needs
-
 loop-again : tie.Need-loop-again Inv-loop μ-loop
 loop-again c =
     let l = c .before .before .loop in
@@ -44,15 +32,4 @@ returns c =
     l .inv .1 ∙ ap (λ (k : ℕ). pad 64 (take k (a .front .now ++ a .back .now))) e ∙ pad-take 64 (a .front .now ++ a .back .now)
 
 pub packed-spec : {M : Type 1} → statement M
-packed-spec =
-    tie.close
-    (tie.spec
-    Inv-loop
-    μ-loop
-    loop-holds
-    block-in-requires
-    array-write-list
-    add-i
-    loop-less
-    loop-again
-    returns)
+packed-spec = tie.close (tie.spec Inv-loop μ-loop loop-holds (search needs) (search needs) (search needs) (search needs) loop-again returns)

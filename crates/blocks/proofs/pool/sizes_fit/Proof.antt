@@ -6,12 +6,6 @@ use Rattle.blocks.specs.Pools.{blockSizesb}
 use Rattle.blocks.proofs.pool.sizes_fit.Statement.{statement}
 use Rattle.blocks.proofs.pool.sizes_fit.Tie as tie
 
-add-blocks : tie.Need-add-blocks
-add-blocks c = search needs
-
-div-blocks : tie.Need-div-blocks
-div-blocks c = search needs
-
 returns : tie.Need-returns
 unfolding blockSizesb
 returns c = refl
@@ -21,4 +15,4 @@ unfolding blockSizesb
 returns-2 c = rw (lt-leb (c .before .args .block) 256 (c .if1 .left), and-false)
 
 pub sizes-fit-spec : {M : Type 1} → statement M
-sizes-fit-spec = tie.close (tie.spec add-blocks div-blocks returns returns-2)
+sizes-fit-spec = tie.close (tie.spec (search needs) (search needs) returns returns-2)

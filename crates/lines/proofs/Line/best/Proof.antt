@@ -18,12 +18,6 @@ Inv-loop keys ids i₀ b₀ i b = (i ≤ i₀) × (i₀ ≤ 32) × (length ids �
 abbrev μ-loop : tie.MeasureT-loop
 μ-loop keys ids i₀ b₀ i b = i
 
-size-requires : tie.Need-size-requires Inv-loop μ-loop
-size-requires c κs = search needs
-
-cast-i : tie.Need-cast-i Inv-loop μ-loop
-cast-i c = search needs
-
 loop-holds : tie.Need-loop-holds Inv-loop μ-loop
 unfolding bestWithKey bestOf leastOf firstOfKey firstWith first filter
 loop-holds c =
@@ -34,27 +28,6 @@ loop-holds c =
     let w = length-members (a .self) o in
     let n : c .size .result ≤ 32 = omega (arith, z, w) in
     (omega arith, n, o, k, rw (back-start (c .size .result) (a .self .ids) (omega (arith, n, o))))
-
-sub-i : tie.Need-sub-i Inv-loop μ-loop
-sub-i c = search needs
-
-array-read-t : tie.Need-array-read-t Inv-loop μ-loop
-array-read-t c = search needs
-
-cast-t : tie.Need-cast-t Inv-loop μ-loop
-cast-t c = search needs
-
-array-read-better : tie.Need-array-read-better Inv-loop μ-loop
-array-read-better c = search needs
-
-array-read-better-2 : tie.Need-array-read-better-2 Inv-loop μ-loop
-array-read-better-2 c = search needs
-
-better-requires : tie.Need-better-requires Inv-loop μ-loop
-better-requires c κs = search needs
-
-loop-less : tie.Need-loop-less Inv-loop μ-loop
-loop-less c = search needs
 
 loop-again : tie.Need-loop-again Inv-loop μ-loop
 loop-again c =
@@ -73,9 +46,6 @@ loop-again c =
       l .inv .3,
       c .better .ensures ∙ ap₂ (λ (k : ℕ) (r : Best). betterOf x k r) g (l .inv .4) ∙ better-step (keyIn (a .t2)) x d ∙ ap (bestWithKey (keyIn (a .t2))) (sym b),
     )
-
-loop-less-2 : tie.Need-loop-less-2 Inv-loop μ-loop
-loop-less-2 c = search needs
 
 loop-again-2 : tie.Need-loop-again-2 Inv-loop μ-loop
 loop-again-2 c =
@@ -107,20 +77,5 @@ returns c =
 pub best-spec : {M : Type 1} → statement M
 best-spec =
     tie.close
-    (tie.spec
-    Inv-loop
-    μ-loop
-    size-requires
-    cast-i
-    loop-holds
-    sub-i
-    array-read-t
-    cast-t
-    array-read-better
-    array-read-better-2
-    better-requires
-    loop-less
-    loop-again
-    loop-less-2
-    loop-again-2
-    returns)
+    (tie.spec Inv-loop μ-loop (search needs) (search needs) loop-holds (search needs) (search needs) (λ c. search needs) (search needs) (search needs)
+    (search needs) (search needs) loop-again (search needs) loop-again-2 returns)

@@ -19,30 +19,12 @@ Inv-loop t n ids k₀ i₀ k i = (i ≤ n) × (n ≤ 32) × (length ids ≡ 32) 
 abbrev μ-loop : tie.MeasureT-loop
 μ-loop t n ids k₀ i₀ k i = n - i
 
-size-requires : tie.Need-size-requires Inv-loop μ-loop
-size-requires c κs = search needs
-
-cast-n : tie.Need-cast-n Inv-loop μ-loop
-cast-n c = search needs
-
 loop-holds : tie.Need-loop-holds Inv-loop μ-loop
 unfolding count
 loop-holds c =
     let e : length (c .before .before .args .self .ids) ≡ 32 = search needs in
     let w = length-members (c .before .before .args .self) e in
     (search needs, omega (arith, c .before .size .ensures, w), e, refl, search needs)
-
-array-read-x : tie.Need-array-read-x Inv-loop μ-loop
-array-read-x c = search needs
-
-add-i : tie.Need-add-i Inv-loop μ-loop
-add-i c = search needs
-
-add-k : tie.Need-add-k Inv-loop μ-loop
-add-k c = search needs
-
-loop-less : tie.Need-loop-less Inv-loop μ-loop
-loop-less c = search needs
 
 loop-again : tie.Need-loop-again Inv-loop μ-loop
 unfolding oneIf
@@ -54,9 +36,6 @@ loop-again c =
     let q = eq-eqb (getD (a .self .ids) (l .i) 0) (a .t .0) (c .if1 .taken) in
     let w : oneIf (eqb (getD (a .self .ids) (l .i) 0) (a .t .0)) ≡ 1 = ap oneIf q in
     (omega arith, omega arith, l .inv .2, rw (take-one (a .self .ids) (l .i) h) (omega (arith, o, w, l .inv .3)), omega arith)
-
-loop-less-2 : tie.Need-loop-less-2 Inv-loop μ-loop
-loop-less-2 c = search needs
 
 loop-again-2 : tie.Need-loop-again-2 Inv-loop μ-loop
 unfolding oneIf
@@ -79,17 +58,5 @@ returns c =
 pub count-spec : {M : Type 1} → statement M
 count-spec =
     tie.close
-    (tie.spec
-    Inv-loop
-    μ-loop
-    size-requires
-    cast-n
-    loop-holds
-    array-read-x
-    add-i
-    add-k
-    loop-less
-    loop-again
-    loop-less-2
-    loop-again-2
-    returns)
+    (tie.spec Inv-loop μ-loop (search needs) (search needs) loop-holds (search needs) (search needs) (search needs) (search needs) loop-again
+    (search needs) loop-again-2 returns)

@@ -9,9 +9,6 @@ use Rattle.lines.specs.Lines.{members}
 use Rattle.lines.proofs.Line.first.Statement.{statement}
 use Rattle.lines.proofs.Line.first.Tie as tie
 
-element-copy-out-t8 : tie.Need-element-copy-out-t8
-element-copy-out-t8 c = search needs
-
 returns : tie.Need-returns
 unfolding first members
 returns c =
@@ -30,4 +27,4 @@ returns-2 c =
     go (suc n) (x ∷ xs) m h = refl
 
 pub first-spec : {M : Type 1} → statement M
-first-spec = tie.close (tie.spec element-copy-out-t8 returns returns-2)
+first-spec = tie.close (tie.spec (search needs) returns returns-2)

@@ -19,21 +19,6 @@ Inv-loop lead t n ids out₀ len₀ i₀ out len i = (i ≤ n) × (n ≤ 32) × 
 abbrev μ-loop : tie.MeasureT-loop
 μ-loop lead t n ids out₀ len₀ i₀ out len i = n - i
 
-size-requires : tie.Need-size-requires Inv-loop μ-loop
-size-requires c κs = search needs
-
-cast-n : tie.Need-cast-n Inv-loop μ-loop
-cast-n c = search needs
-
-value-if-requires : tie.Need-value-if-requires Inv-loop μ-loop
-value-if-requires c κs = search needs
-
-array-write-out : tie.Need-array-write-out Inv-loop μ-loop
-array-write-out c = search needs
-
-value-if-requires-2 : tie.Need-value-if-requires-2 Inv-loop μ-loop
-value-if-requires-2 c κs = search needs
-
 loop-holds : tie.Need-loop-holds Inv-loop μ-loop
 unfolding lineOf pad without filter
 loop-holds c =
@@ -52,23 +37,8 @@ loop-holds c =
     go true t = refl
     go false t = refl
 
-array-read-x : tie.Need-array-read-x Inv-loop μ-loop
-array-read-x c = search needs
-
-add-i : tie.Need-add-i Inv-loop μ-loop
-add-i c = search needs
-
 cast-k : tie.Need-cast-k Inv-loop μ-loop
 cast-k c = omega (arith, c .before .before .before .loop .inv .4)
-
-array-write-out-2 : tie.Need-array-write-out-2 Inv-loop μ-loop
-array-write-out-2 c = search needs
-
-add-len : tie.Need-add-len Inv-loop μ-loop
-add-len c = search needs
-
-loop-less : tie.Need-loop-less Inv-loop μ-loop
-loop-less c = search needs
 
 loop-again : tie.Need-loop-again Inv-loop μ-loop
 loop-again c =
@@ -81,9 +51,6 @@ loop-again c =
     let m = one-more o (ys ++ without (a .t .0) (take (l .i) (a .self .ids))) (getD (a .self .ids) (l .i) 0) (l .inv .5) (c .if2 .taken) in
     (omega arith, omega arith, l .inv .2, simp length-set (l .inv .3), omega arith, m ∙ ap lineOf (sym g))
 
-loop-less-2 : tie.Need-loop-less-2 Inv-loop μ-loop
-loop-less-2 c = search needs
-
 loop-again-2 : tie.Need-loop-again-2 Inv-loop μ-loop
 loop-again-2 c =
     let l = c .before .before .before .before .loop in
@@ -94,9 +61,6 @@ loop-again-2 c =
     let g = gather-keep ys (a .t .0) (a .self .ids) (l .i) h (c .before .if1 .taken) in
     let m = full o (ys ++ without (a .t .0) (take (l .i) (a .self .ids))) (getD (a .self .ids) (l .i) 0) (l .inv .5) (c .if2 .left) in
     (omega arith, omega arith, l .inv .2, l .inv .3, l .inv .4, m ∙ ap lineOf (sym g))
-
-loop-less-3 : tie.Need-loop-less-3 Inv-loop μ-loop
-loop-less-3 c = search needs
 
 loop-again-3 : tie.Need-loop-again-3 Inv-loop μ-loop
 loop-again-3 c =
@@ -118,24 +82,5 @@ returns c =
 pub gathered-spec : {M : Type 1} → statement M
 gathered-spec =
     tie.close
-    (tie.spec
-    Inv-loop
-    μ-loop
-    size-requires
-    cast-n
-    value-if-requires
-    array-write-out
-    value-if-requires-2
-    loop-holds
-    array-read-x
-    add-i
-    cast-k
-    array-write-out-2
-    add-len
-    loop-less
-    loop-again
-    loop-less-2
-    loop-again-2
-    loop-less-3
-    loop-again-3
-    returns)
+    (tie.spec Inv-loop μ-loop (search needs) (search needs) (search needs) (search needs) (search needs) loop-holds (search needs) (search needs)
+    cast-k (search needs) (search needs) (search needs) loop-again (search needs) loop-again-2 (search needs) loop-again-3 returns)

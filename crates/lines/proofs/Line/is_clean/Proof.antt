@@ -17,12 +17,6 @@ Inv-loop self ids n any₀ i₀ any i = (n ≤ i) × (i ≤ 32) × (length ids �
 abbrev μ-loop : tie.MeasureT-loop
 μ-loop self ids n any₀ i₀ any i = 32 - i
 
-size-requires : tie.Need-size-requires Inv-loop μ-loop
-size-requires c κs = search needs
-
-cast-n : tie.Need-cast-n Inv-loop μ-loop
-cast-n c = search needs
-
 loop-holds : tie.Need-loop-holds Inv-loop μ-loop
 unfolding members
 loop-holds c =
@@ -30,15 +24,6 @@ loop-holds c =
     let e : length (a .ids) ≡ 32 = search needs in
     let m : c .size .result ≡ min (a .len) 32 = omega (arith, c .size .ensures, length-take (a .len) (a .ids), e) in
     (omega arith, omega (arith, m), e, m, tail-start (c .size .result) (a .len) (a .ids) (omega (arith, m)))
-
-array-read-any : tie.Need-array-read-any Inv-loop μ-loop
-array-read-any c = search needs
-
-add-i : tie.Need-add-i Inv-loop μ-loop
-add-i c = search needs
-
-loop-less : tie.Need-loop-less Inv-loop μ-loop
-loop-less c = search needs
 
 loop-again : tie.Need-loop-again Inv-loop μ-loop
 loop-again c =
@@ -57,14 +42,4 @@ returns c =
 pub is-clean-spec : {M : Type 1} → statement M
 is-clean-spec =
     tie.close
-    (tie.spec
-    Inv-loop
-    μ-loop
-    size-requires
-    cast-n
-    loop-holds
-    array-read-any
-    add-i
-    loop-less
-    loop-again
-    returns)
+    (tie.spec Inv-loop μ-loop (search needs) (search needs) loop-holds (search needs) (search needs) (search needs) loop-again returns)

@@ -3,12 +3,9 @@ use Rattle.lines.specs.Lists.{toFront}
 use Rattle.lines.proofs.Line.joined_front.Statement.{statement}
 use Rattle.lines.proofs.Line.joined_front.Tie as tie
 
-gathered-requires : tie.Need-gathered-requires
-gathered-requires c κs = search needs
-
 returns : tie.Need-returns
 unfolding toFront
 returns c = c .gathered .ensures
 
 pub joined-front-spec : {M : Type 1} → statement M
-joined-front-spec = tie.close (tie.spec gathered-requires returns)
+joined-front-spec = tie.close (tie.spec (search needs) returns)

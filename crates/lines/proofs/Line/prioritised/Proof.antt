@@ -3,15 +3,9 @@ use Rattle.lines.specs.Lists.{prioritised}
 use Rattle.lines.proofs.Line.prioritised.Statement.{statement}
 use Rattle.lines.proofs.Line.prioritised.Tie as tie
 
-best-requires : tie.Need-best-requires
-best-requires c κs = search needs
-
-gathered-requires : tie.Need-gathered-requires
-gathered-requires c κs = search needs
-
 returns : tie.Need-returns
 unfolding prioritised
 returns c = rw (← c .before .before .best .ensures) (c .gathered .ensures)
 
 pub prioritised-spec : {M : Type 1} → statement M
-prioritised-spec = tie.close (tie.spec best-requires gathered-requires returns)
+prioritised-spec = tie.close (tie.spec (search needs) (search needs) returns)

@@ -16,12 +16,6 @@ Inv-loop ids i₀ counts₀ i counts = (i ≤ i₀) × (i₀ ≤ 32) × (length 
 abbrev μ-loop : tie.MeasureT-loop
 μ-loop ids i₀ counts₀ i counts = i
 
-size-requires : tie.Need-size-requires Inv-loop μ-loop
-size-requires c κs = search needs
-
-cast-i : tie.Need-cast-i Inv-loop μ-loop
-cast-i c = search needs
-
 loop-holds : tie.Need-loop-holds Inv-loop μ-loop
 unfolding tally
 loop-holds c =
@@ -31,15 +25,6 @@ loop-holds c =
     let w = length-members (a .self) o in
     let n : c .size .result ≤ 32 = omega (arith, z, w) in
     (omega arith, n, o, rw (back-start (c .size .result) (a .self .ids) (omega (arith, n, o))))
-
-sub-i : tie.Need-sub-i Inv-loop μ-loop
-sub-i c = search needs
-
-array-read-slot : tie.Need-array-read-slot Inv-loop μ-loop
-array-read-slot c = search needs
-
-slot-requires : tie.Need-slot-requires Inv-loop μ-loop
-slot-requires c κs = search needs
 
 array-read-counts : tie.Need-array-read-counts Inv-loop μ-loop
 array-read-counts c =
@@ -65,9 +50,6 @@ array-write-counts c =
     let k = slot-small (getD (a .self .ids) (l .i - 1) 0) in
     omega (arith, k, c .slot .ensures)
 
-loop-less : tie.Need-loop-less Inv-loop μ-loop
-loop-less c = search needs
-
 loop-again : tie.Need-loop-again Inv-loop μ-loop
 unfolding tally
 loop-again c =
@@ -89,18 +71,5 @@ returns c =
 pub tally-spec : {M : Type 1} → statement M
 tally-spec =
     tie.close
-    (tie.spec
-    Inv-loop
-    μ-loop
-    size-requires
-    cast-i
-    loop-holds
-    sub-i
-    array-read-slot
-    slot-requires
-    array-read-counts
-    add-counts
-    array-write-counts
-    loop-less
-    loop-again
-    returns)
+    (tie.spec Inv-loop μ-loop (search needs) (search needs) loop-holds (search needs) (search needs) (search needs) array-read-counts add-counts
+    array-write-counts (search needs) loop-again returns)

@@ -4,9 +4,6 @@ use Rattle.objects.specs.Queues.{sizesFitb}
 use Rattle.objects.proofs.queue.sizes_fit.Statement.{statement}
 use Rattle.objects.proofs.queue.sizes_fit.Tie as tie
 
-div-result : tie.Need-div-result
-div-result c = search needs
-
 returns : tie.Need-returns
 unfolding sizesFitb
 returns c = rw (c .if1 .taken)
@@ -16,4 +13,4 @@ unfolding sizesFitb
 returns-2 c = refl
 
 pub sizes-fit-spec : {M : Type 1} → statement M
-sizes-fit-spec = tie.close (tie.spec div-result returns returns-2)
+sizes-fit-spec = tie.close (tie.spec (search needs) returns returns-2)

@@ -5,18 +5,6 @@ use Rattle.lines.proofs.Laws.Slots.{getD-behind}
 use Rattle.objects.proofs.queue.word_in.Statement.{statement}
 use Rattle.objects.proofs.queue.word_in.Tie as tie
 
-mul-result : tie.Need-mul-result
-mul-result c = search needs
-
-shared-slice-read-result : tie.Need-shared-slice-read-result
-shared-slice-read-result c = search needs
-
-sub-word-at : tie.Need-sub-word-at
-sub-word-at c = search needs
-
-word-at-requires : tie.Need-word-at-requires
-word-at-requires c κs = search needs
-
 returns : tie.Need-returns
 returns c =
     let a = c .before .before .before .before .args in
@@ -28,6 +16,4 @@ returns-2 c =
     c .word-at .ensures ∙ sym (getD-behind (a .front .now) (a .back .now) (a .i) (c .before .if1 .left))
 
 pub word-in-spec : {M : Type 1} → statement M
-word-in-spec =
-    tie.close
-    (tie.spec mul-result shared-slice-read-result sub-word-at word-at-requires returns returns-2)
+word-in-spec = tie.close (tie.spec (search needs) (search needs) (search needs) (search needs) returns returns-2)

@@ -22,12 +22,6 @@ Inv-loop marked self ids i₀ b₀ i b = (i ≤ i₀) × (i₀ ≤ 32) × (lengt
 abbrev μ-loop : tie.MeasureT-loop
 μ-loop marked self ids i₀ b₀ i b = i
 
-size-requires : tie.Need-size-requires Inv-loop μ-loop
-size-requires c κs = search needs
-
-cast-i : tie.Need-cast-i Inv-loop μ-loop
-cast-i c = search needs
-
 loop-holds : tie.Need-loop-holds Inv-loop μ-loop
 unfolding bestWithKey bestOf leastOf firstOfKey firstWith first filter
 loop-holds c =
@@ -37,30 +31,6 @@ loop-holds c =
     let w = length-members (a .t1 .order) o in
     let n : c .size .result ≤ 32 = omega (arith, z, w) in
     (omega arith, n, o, rw (back-start (c .size .result) (a .t1 .order .ids) (omega (arith, n, o))))
-
-sub-i : tie.Need-sub-i Inv-loop μ-loop
-sub-i c = search needs
-
-array-read-t : tie.Need-array-read-t Inv-loop μ-loop
-array-read-t c = search needs
-
-cast-t : tie.Need-cast-t Inv-loop μ-loop
-cast-t c = search needs
-
-array-read-considered : tie.Need-array-read-considered Inv-loop μ-loop
-array-read-considered c = search needs
-
-mul-considered : tie.Need-mul-considered Inv-loop μ-loop
-mul-considered c = search needs
-
-element-copy-out-considered : tie.Need-element-copy-out-considered Inv-loop μ-loop
-element-copy-out-considered c = search needs
-
-considered-requires : tie.Need-considered-requires Inv-loop μ-loop
-considered-requires c κs = search needs
-
-loop-less : tie.Need-loop-less Inv-loop μ-loop
-loop-less c = search needs
 
 loop-again : tie.Need-loop-again Inv-loop μ-loop
 unfolding threadAt consideredOf
@@ -75,9 +45,6 @@ loop-again c =
     let b = back n (l .i) (a .t1 .order .ids) q (omega (arith, m)) in
     let h : getD (a .t1 .threads) x _ ≡ threadAt (a .t1) x = getD-any (a .t1 .threads) x _ noThread (omega arith) in
     (omega arith, omega arith, l .inv .2, rw b (best-step (a .t1) (wantedb (a .marked)) x (drop (l .i) (take n (a .t1 .order .ids))) _ _ _ h (c .considered .ensures) (l .inv .3)))
-
-loop-less-2 : tie.Need-loop-less-2 Inv-loop μ-loop
-loop-less-2 c = search needs
 
 loop-again-2 : tie.Need-loop-again-2 Inv-loop μ-loop
 loop-again-2 c =
@@ -104,21 +71,5 @@ returns c =
 pub best-spec : {M : Type 1} → statement M
 best-spec =
     tie.close
-    (tie.spec
-    Inv-loop
-    μ-loop
-    size-requires
-    cast-i
-    loop-holds
-    sub-i
-    array-read-t
-    cast-t
-    array-read-considered
-    mul-considered
-    element-copy-out-considered
-    considered-requires
-    loop-less
-    loop-again
-    loop-less-2
-    loop-again-2
-    returns)
+    (tie.spec Inv-loop μ-loop (search needs) (search needs) loop-holds (search needs) (search needs) (λ c. search needs) (search needs) (search needs)
+    (search needs) (search needs) (search needs) loop-again (search needs) loop-again-2 returns)

@@ -21,12 +21,6 @@ Inv-loop p self ids n i₀ i = (i ≤ n) × (n ≤ 32) × (length ids ≡ 32) ×
 abbrev μ-loop : tie.MeasureT-loop
 μ-loop p self ids n i₀ i = n - i
 
-size-requires : tie.Need-size-requires Inv-loop μ-loop
-size-requires c κs = search needs
-
-cast-n : tie.Need-cast-n Inv-loop μ-loop
-cast-n c = search needs
-
 loop-holds : tie.Need-loop-holds Inv-loop μ-loop
 loop-holds c =
     let a = c .before .before .before .args in
@@ -34,24 +28,6 @@ loop-holds c =
     let o : length (a .t1 .order .ids) ≡ 32 = search needs in
     let w = length-members (a .t1 .order) o in
     (omega arith, omega (arith, z, w), o, refl)
-
-array-read-x : tie.Need-array-read-x Inv-loop μ-loop
-array-read-x c = search needs
-
-cast-t : tie.Need-cast-t Inv-loop μ-loop
-cast-t c = search needs
-
-add-i : tie.Need-add-i Inv-loop μ-loop
-add-i c = search needs
-
-mul-is-at : tie.Need-mul-is-at Inv-loop μ-loop
-mul-is-at c = search needs
-
-element-copy-out-is-at : tie.Need-element-copy-out-is-at Inv-loop μ-loop
-element-copy-out-is-at c = search needs
-
-is-at-requires : tie.Need-is-at-requires Inv-loop μ-loop
-is-at-requires c κs = search needs
 
 returns : tie.Need-returns Inv-loop μ-loop
 unfolding firstAt lineAt threadAt firstWith first
@@ -69,9 +45,6 @@ returns c =
     let k : take n (a .t1 .order .ids) ≡ members (a .t1 .order) = ap (λ (j : ℕ). take j (a .t1 .order .ids)) (c .before .before .before .before .before .before .size .ensures) ∙ members-take (a .t1 .order) in
     sym (sym (ap (firstWith f) k) ∙ l .inv .3 ∙ g)
 
-loop-less : tie.Need-loop-less Inv-loop μ-loop
-loop-less c = search needs
-
 loop-again : tie.Need-loop-again Inv-loop μ-loop
 unfolding threadAt
 loop-again c =
@@ -85,9 +58,6 @@ loop-again c =
     let h = getD-any (a .t1 .threads) x _ noThread (omega arith) in
     let y : f x ≡ false = sym (ap (placedb (a .p)) h) ∙ sym (c .before .is-at .ensures) ∙ c .if2 .left in
     (omega arith, omega arith, l .inv .2, l .inv .3 ∙ first-passed f n (l .i) (a .t1 .order .ids) (omega (arith, m)) y)
-
-loop-less-2 : tie.Need-loop-less-2 Inv-loop μ-loop
-loop-less-2 c = search needs
 
 loop-again-2 : tie.Need-loop-again-2 Inv-loop μ-loop
 loop-again-2 c =
@@ -114,21 +84,5 @@ returns-2 c =
 pub first-at-spec : {M : Type 1} → statement M
 first-at-spec =
     tie.close
-    (tie.spec
-    Inv-loop
-    μ-loop
-    size-requires
-    cast-n
-    loop-holds
-    array-read-x
-    cast-t
-    add-i
-    mul-is-at
-    element-copy-out-is-at
-    is-at-requires
-    returns
-    loop-less
-    loop-again
-    loop-less-2
-    loop-again-2
-    returns-2)
+    (tie.spec Inv-loop μ-loop (search needs) (search needs) loop-holds (search needs) (λ c. search needs) (search needs) (search needs) (search needs)
+    (search needs) returns (search needs) loop-again (search needs) loop-again-2 returns-2)

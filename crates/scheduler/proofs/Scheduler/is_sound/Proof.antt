@@ -26,27 +26,9 @@ Inv-loop self o r runner limit counts t₀ t = (t ≤ 32) × (length (self .thre
 abbrev μ-loop : tie.MeasureT-loop
 μ-loop self o r runner limit counts t₀ t = 32 - t
 
-thread-at-requires : tie.Need-thread-at-requires Inv-loop μ-loop
-thread-at-requires c κs = search needs
-
-tally-requires : tie.Need-tally-requires Inv-loop μ-loop
-tally-requires c κs = search needs
-
 loop-holds : tie.Need-loop-holds Inv-loop μ-loop
 unfolding allBelow
 loop-holds c = (omega arith, search length-mapped, refl)
-
-mul-is-placed : tie.Need-mul-is-placed Inv-loop μ-loop
-mul-is-placed c = search needs
-
-element-copy-out-is-placed : tie.Need-element-copy-out-is-placed Inv-loop μ-loop
-element-copy-out-is-placed c = search needs
-
-array-read-is-placed : tie.Need-array-read-is-placed Inv-loop μ-loop
-array-read-is-placed c = search needs
-
-is-placed-requires : tie.Need-is-placed-requires Inv-loop μ-loop
-is-placed-requires c κs = search needs
 
 returns : tie.Need-returns Inv-loop μ-loop
 unfolding threadAt
@@ -60,12 +42,6 @@ returns c =
     let f = sym q ∙ not-true (c .before .is-placed .result) (c .if1 .taken) in
     sym (sound-parts a (l .inv .1) ∙ rw (all-not 32 (placed a) (l .t) h f, and-false))
 
-add-t : tie.Need-add-t Inv-loop μ-loop
-add-t c = search needs
-
-loop-less : tie.Need-loop-less Inv-loop μ-loop
-loop-less c = search needs
-
 loop-again : tie.Need-loop-again Inv-loop μ-loop
 unfolding threadAt
 loop-again c =
@@ -77,15 +53,6 @@ loop-again c =
     let q = c .before .is-placed .ensures ∙ placed-read a (l .t) _ _ _ n (ap (λ (th : Thread). th .threshold) (c .before .before .before .before .before .before .thread-at .ensures)) (getD-any (a .threads) (l .t) _ noThread e) in
     let f = sym q ∙ not-false (c .before .is-placed .result) (c .if1 .left) in
     (omega arith, l .inv .1, sym (all-more (placed a) (l .t)) ∙ ap₂ _&&_ (l .inv .2) f)
-
-is-clean-requires : tie.Need-is-clean-requires Inv-loop μ-loop
-is-clean-requires c κs = search needs
-
-array-read-result : tie.Need-array-read-result Inv-loop μ-loop
-array-read-result c = search needs
-
-may-run-requires : tie.Need-may-run-requires Inv-loop μ-loop
-may-run-requires c κs = search needs
 
 returns-2 : tie.Need-returns-2 Inv-loop μ-loop
 returns-2 c =
@@ -99,21 +66,5 @@ returns-2 c =
 pub is-sound-spec : {M : Type 1} → statement M
 is-sound-spec =
     tie.close
-    (tie.spec
-    Inv-loop
-    μ-loop
-    thread-at-requires
-    tally-requires
-    loop-holds
-    mul-is-placed
-    element-copy-out-is-placed
-    array-read-is-placed
-    is-placed-requires
-    returns
-    add-t
-    loop-less
-    loop-again
-    is-clean-requires
-    array-read-result
-    may-run-requires
-    returns-2)
+    (tie.spec Inv-loop μ-loop (search needs) (search needs) loop-holds (search needs) (search needs) (search needs) (search needs) returns
+    (search needs) (search needs) loop-again (search needs) (search needs) (search needs) returns-2)

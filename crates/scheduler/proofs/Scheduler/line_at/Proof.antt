@@ -21,12 +21,6 @@ Inv-loop p self ids n out₀ len₀ i₀ out len i = (i ≤ n) × (n ≤ 32) × 
 abbrev μ-loop : tie.MeasureT-loop
 μ-loop p self ids n out₀ len₀ i₀ out len i = n - i
 
-size-requires : tie.Need-size-requires Inv-loop μ-loop
-size-requires c κs = search needs
-
-cast-n : tie.Need-cast-n Inv-loop μ-loop
-cast-n c = search needs
-
 loop-holds : tie.Need-loop-holds Inv-loop μ-loop
 unfolding lineOf pad filter
 loop-holds c =
@@ -35,36 +29,6 @@ loop-holds c =
     let o : length (a .t1 .order .ids) ≡ 32 = search needs in
     let w = length-members (a .t1 .order) o in
     (omega arith, omega (arith, z, w), o, refl, omega arith, refl)
-
-array-read-x : tie.Need-array-read-x Inv-loop μ-loop
-array-read-x c = search needs
-
-cast-t : tie.Need-cast-t Inv-loop μ-loop
-cast-t c = search needs
-
-add-i : tie.Need-add-i Inv-loop μ-loop
-add-i c = search needs
-
-mul-is-at : tie.Need-mul-is-at Inv-loop μ-loop
-mul-is-at c = search needs
-
-element-copy-out-is-at : tie.Need-element-copy-out-is-at Inv-loop μ-loop
-element-copy-out-is-at c = search needs
-
-is-at-requires : tie.Need-is-at-requires Inv-loop μ-loop
-is-at-requires c κs = search needs
-
-cast-k : tie.Need-cast-k Inv-loop μ-loop
-cast-k c = search needs
-
-array-write-out : tie.Need-array-write-out Inv-loop μ-loop
-array-write-out c = search needs
-
-add-len : tie.Need-add-len Inv-loop μ-loop
-add-len c = search needs
-
-loop-less : tie.Need-loop-less Inv-loop μ-loop
-loop-less c = search needs
 
 loop-again : tie.Need-loop-again Inv-loop μ-loop
 unfolding threadAt
@@ -81,9 +45,6 @@ loop-again c =
     let m = one-more o (filter f (take (l .i) (a .t1 .order .ids))) x (l .inv .5) (omega arith) in
     (omega arith, omega arith, l .inv .2, simp length-set (l .inv .3), omega arith, m ∙ ap lineOf (sym (kept-one f (l .i) (a .t1 .order .ids) q y)))
 
-loop-less-2 : tie.Need-loop-less-2 Inv-loop μ-loop
-loop-less-2 c = search needs
-
 loop-again-2 : tie.Need-loop-again-2 Inv-loop μ-loop
 unfolding threadAt
 loop-again-2 c =
@@ -97,9 +58,6 @@ loop-again-2 c =
     let h = getD-any (a .t1 .threads) x _ noThread (omega arith) in
     let y : f x ≡ false = sym (ap (placedb (a .p)) h) ∙ sym (c .before .is-at .ensures) ∙ c .if2 .left in
     (omega arith, omega arith, l .inv .2, l .inv .3, omega arith, l .inv .5 ∙ ap lineOf (sym (left-one f (l .i) (a .t1 .order .ids) q y)))
-
-loop-less-3 : tie.Need-loop-less-3 Inv-loop μ-loop
-loop-less-3 c = search needs
 
 loop-again-3 : tie.Need-loop-again-3 Inv-loop μ-loop
 loop-again-3 c =
@@ -129,25 +87,6 @@ returns c =
 pub line-at-spec : {M : Type 1} → statement M
 line-at-spec =
     tie.close
-    (tie.spec
-    Inv-loop
-    μ-loop
-    size-requires
-    cast-n
-    loop-holds
-    array-read-x
-    cast-t
-    add-i
-    mul-is-at
-    element-copy-out-is-at
-    is-at-requires
-    cast-k
-    array-write-out
-    add-len
-    loop-less
-    loop-again
-    loop-less-2
-    loop-again-2
-    loop-less-3
-    loop-again-3
+    (tie.spec Inv-loop μ-loop (search needs) (search needs) loop-holds (search needs) (λ c. search needs) (search needs) (search needs) (search needs)
+    (search needs) (search needs) (search needs) (search needs) (search needs) loop-again (search needs) loop-again-2 (search needs) loop-again-3
     returns)

@@ -12,24 +12,6 @@ use Rattle.scheduler.proofs.Laws.Orders.{thread-out}
 use Rattle.scheduler.proofs.Scheduler.moved.Statement.{statement}
 use Rattle.scheduler.proofs.Scheduler.moved.Tie as tie
 
-cast-i : tie.Need-cast-i
-cast-i c = search needs
-
-mul-th : tie.Need-mul-th
-mul-th c = search needs
-
-element-set-from-th : tie.Need-element-set-from-th
-element-set-from-th c = search needs
-
-is-standing-requires : tie.Need-is-standing-requires
-is-standing-requires c κs = search needs
-
-joined-end-requires : tie.Need-joined-end-requires
-joined-end-requires c κs = search needs
-
-without-requires : tie.Need-without-requires
-without-requires c κs = search needs
-
 returns : tie.Need-returns
 unfolding moved withOrder withThread toEnd toFront
 returns c =
@@ -55,14 +37,4 @@ returns-2 c =
     rw (← c .before .before .is-standing .ensures, c .before .if2 .left, z, c .without .ensures, append-nil)
 
 pub moved-spec : {M : Type 1} → statement M
-moved-spec =
-    tie.close
-    (tie.spec
-    cast-i
-    mul-th
-    element-set-from-th
-    is-standing-requires
-    joined-end-requires
-    without-requires
-    returns
-    returns-2)
+moved-spec = tie.close (tie.spec (search needs) (search needs) (search needs) (search needs) (search needs) (search needs) returns returns-2)

@@ -11,24 +11,6 @@ use Rattle.scheduler.proofs.Laws.Orders.{thread-out}
 use Rattle.scheduler.proofs.Scheduler.moved_front.Statement.{statement}
 use Rattle.scheduler.proofs.Scheduler.moved_front.Tie as tie
 
-cast-i : tie.Need-cast-i
-cast-i c = search needs
-
-mul-th : tie.Need-mul-th
-mul-th c = search needs
-
-element-set-from-th : tie.Need-element-set-from-th
-element-set-from-th c = search needs
-
-is-standing-requires : tie.Need-is-standing-requires
-is-standing-requires c κs = search needs
-
-joined-front-requires : tie.Need-joined-front-requires
-joined-front-requires c κs = search needs
-
-without-requires : tie.Need-without-requires
-without-requires c κs = search needs
-
 returns : tie.Need-returns
 unfolding movedFront withOrder withThread toEnd toFront
 returns c =
@@ -54,14 +36,4 @@ returns-2 c =
     rw (← c .before .before .is-standing .ensures, c .before .if2 .left, z, c .without .ensures)
 
 pub moved-front-spec : {M : Type 1} → statement M
-moved-front-spec =
-    tie.close
-    (tie.spec
-    cast-i
-    mul-th
-    element-set-from-th
-    is-standing-requires
-    joined-front-requires
-    without-requires
-    returns
-    returns-2)
+moved-front-spec = tie.close (tie.spec (search needs) (search needs) (search needs) (search needs) (search needs) (search needs) returns returns-2)

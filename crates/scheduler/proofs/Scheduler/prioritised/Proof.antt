@@ -9,12 +9,6 @@ use Rattle.scheduler.proofs.Laws.Threads.{keys-at}
 use Rattle.scheduler.proofs.Scheduler.prioritised.Statement.{statement}
 use Rattle.scheduler.proofs.Scheduler.prioritised.Tie as tie
 
-keys-at-requires : tie.Need-keys-at-requires
-keys-at-requires c κs = search needs
-
-prioritised-requires : tie.Need-prioritised-requires
-prioritised-requires c κs = search needs
-
 returns : tie.Need-returns
 unfolding prioritisedAt withOrder
 returns c =
@@ -23,4 +17,4 @@ returns c =
     rw (c .prioritised .ensures) (λ i. record { running = a .self .running; order = lineOf (prioritised (λ t. k t i) (members (a .self .order))); threads = a .self .threads })
 
 pub prioritised-spec : {M : Type 1} → statement M
-prioritised-spec = tie.close (tie.spec keys-at-requires prioritised-requires returns)
+prioritised-spec = tie.close (tie.spec (search needs) (search needs) returns)

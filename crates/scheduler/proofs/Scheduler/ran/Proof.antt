@@ -16,21 +16,6 @@ use Rattle.scheduler.proofs.Laws.Orders.{thread-out}
 use Rattle.scheduler.proofs.Scheduler.ran.Statement.{statement}
 use Rattle.scheduler.proofs.Scheduler.ran.Tie as tie
 
-cast-i : tie.Need-cast-i
-cast-i c = search needs
-
-mul-th : tie.Need-mul-th
-mul-th c = search needs
-
-element-copy-out-th : tie.Need-element-copy-out-th
-element-copy-out-th c = search needs
-
-mul-th-2 : tie.Need-mul-th-2
-mul-th-2 c = search needs
-
-element-set-from-th : tie.Need-element-set-from-th
-element-set-from-th c = search needs
-
 returns : tie.Need-returns
 unfolding ran withRunner withThread withMark threadAt
 returns c =
@@ -48,5 +33,4 @@ returns c =
     ap (λ (s : Scheduler). withRunner s (a .t .0)) z
 
 pub ran-spec : {M : Type 1} → statement M
-ran-spec =
-    tie.close (tie.spec cast-i mul-th element-copy-out-th mul-th-2 element-set-from-th returns)
+ran-spec = tie.close (tie.spec (search needs) (search needs) (search needs) (search needs) (search needs) returns)

@@ -14,21 +14,6 @@ use Rattle.scheduler.proofs.Laws.Orders.{thread-out}
 use Rattle.scheduler.proofs.Scheduler.replaced.Statement.{statement}
 use Rattle.scheduler.proofs.Scheduler.replaced.Tie as tie
 
-cast-i : tie.Need-cast-i
-cast-i c = search needs
-
-mul-th : tie.Need-mul-th
-mul-th c = search needs
-
-element-copy-out-th : tie.Need-element-copy-out-th
-element-copy-out-th c = search needs
-
-mul-th-2 : tie.Need-mul-th-2
-mul-th-2 c = search needs
-
-element-set-from-th : tie.Need-element-set-from-th
-element-set-from-th c = search needs
-
 returns : tie.Need-returns
 unfolding replaced withThread withMark threadAt
 returns c =
@@ -46,6 +31,4 @@ returns-2 c =
     sym (thread-out (a .t1) (a .t1 .running .0) _ h)
 
 pub replaced-spec : {M : Type 1} → statement M
-replaced-spec =
-    tie.close
-    (tie.spec cast-i mul-th element-copy-out-th mul-th-2 element-set-from-th returns returns-2)
+replaced-spec = tie.close (tie.spec (search needs) (search needs) (search needs) (search needs) (search needs) returns returns-2)

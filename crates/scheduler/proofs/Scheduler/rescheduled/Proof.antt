@@ -8,24 +8,6 @@ use Rattle.scheduler.proofs.Laws.Choice.{is-replaced, goes-on, best-fol
 use Rattle.scheduler.proofs.Scheduler.rescheduled.Statement.{statement}
 use Rattle.scheduler.proofs.Scheduler.rescheduled.Tie as tie
 
-thread-at-requires : tie.Need-thread-at-requires
-thread-at-requires c κs = search needs
-
-best-ready-requires : tie.Need-best-ready-requires
-best-ready-requires c κs = search needs
-
-thread-at-requires-2 : tie.Need-thread-at-requires-2
-thread-at-requires-2 c κs = search needs
-
-is-ready-requires : tie.Need-is-ready-requires
-is-ready-requires c κs = search needs
-
-replaced-requires : tie.Need-replaced-requires
-replaced-requires c κs = search needs
-
-ran-requires : tie.Need-ran-requires
-ran-requires c κs = search needs
-
 returns : tie.Need-returns
 returns c =
     let a = c .before .before .before .before .before .before .before .before .before .before .before .args in
@@ -34,9 +16,6 @@ returns c =
     let y = sym (stays-from (a .self) (a .relinquished) (c .before .before .before .before .before .before .before .before .before .thread-at .result) r) ∙ sym (ap (λ (b : Bool). b && not (a .relinquished)) (c .before .before .before .before .before .before .is-ready .ensures)) ∙ c .before .before .before .before .before .if1 .taken in
     let o = sym (overtakes-from (a .self) (a .self .running .0) (c .before .before .before .before .before .before .before .thread-at2 .result) (c .before .before .before .before .before .before .before .before .before .thread-at .result) h r) ∙ lt-ltb (c .before .before .before .before .before .before .before .thread-at2 .result .priority) (c .before .before .before .before .before .before .before .before .before .thread-at .result .threshold) (c .before .before .if2 .taken) in
     c .ran .ensures ∙ ap₂ ran (c .before .replaced .ensures) (c .before .before .before .before .before .before .before .before .best-ready .ensures) ∙ sym (is-replaced (a .self) (a .relinquished) y o)
-
-ran-requires-2 : tie.Need-ran-requires-2
-ran-requires-2 c κs = search needs
 
 returns-2 : tie.Need-returns-2
 returns-2 c =
@@ -47,15 +26,6 @@ returns-2 c =
     let o = sym (overtakes-from (a .self) (a .self .running .0) (c .before .before .before .before .before .before .thread-at2 .result) (c .before .before .before .before .before .before .before .before .thread-at .result) h r) ∙ le-ltb (c .before .before .before .before .before .before .thread-at2 .result .priority) (c .before .before .before .before .before .before .before .before .thread-at .result .threshold) (c .before .if2 .left) in
     c .ran2 .ensures ∙ sym (goes-on (a .self) (a .relinquished) y o)
 
-best-marked-requires : tie.Need-best-marked-requires
-best-marked-requires c κs = search needs
-
-thread-at-requires-3 : tie.Need-thread-at-requires-3
-thread-at-requires-3 c κs = search needs
-
-ran-requires-3 : tie.Need-ran-requires-3
-ran-requires-3 c κs = search needs
-
 returns-3 : tie.Need-returns-3
 returns-3 c =
     let a = c .before .before .before .before .before .before .before .before .before .before .before .before .args in
@@ -64,9 +34,6 @@ returns-3 c =
     let y = sym (stays-from (a .self) (a .relinquished) (c .before .before .before .before .before .before .before .before .before .before .thread-at .result) r) ∙ sym (ap (λ (b : Bool). b && not (a .relinquished)) (c .before .before .before .before .before .before .before .is-ready .ensures)) ∙ c .before .before .before .before .before .before .if1 .left in
     let o = sym (overtakes-from (a .self) (bestMarked (a .self)) (c .before .before .before .before .before .before .before .before .thread-at2 .result) (c .before .before .before .before .thread-at3 .result) h (c .before .before .before .before .thread-at3 .ensures ∙ ap (threadAt (a .self)) (c .before .before .before .before .before .best-marked .ensures))) ∙ lt-ltb (c .before .before .before .before .before .before .before .before .thread-at2 .result .priority) (c .before .before .before .before .thread-at3 .result .threshold) (c .before .if3 .taken) in
     c .ran3 .ensures ∙ ap (ran (a .self)) (c .before .before .before .before .before .before .before .before .before .best-ready .ensures) ∙ sym (best-follows (a .self) (a .relinquished) y o)
-
-ran-requires-4 : tie.Need-ran-requires-4
-ran-requires-4 c κs = search needs
 
 returns-4 : tie.Need-returns-4
 returns-4 c =
@@ -80,19 +47,5 @@ returns-4 c =
 pub rescheduled-spec : {M : Type 1} → statement M
 rescheduled-spec =
     tie.close
-    (tie.spec
-    thread-at-requires
-    best-ready-requires
-    thread-at-requires-2
-    is-ready-requires
-    replaced-requires
-    ran-requires
-    returns
-    ran-requires-2
-    returns-2
-    best-marked-requires
-    thread-at-requires-3
-    ran-requires-3
-    returns-3
-    ran-requires-4
-    returns-4)
+    (tie.spec (search needs) (search needs) (search needs) (search needs) (search needs) (search needs) returns (search needs) returns-2
+    (search needs) (search needs) (search needs) returns-3 (search needs) returns-4)

@@ -4,15 +4,9 @@ use Rattle.scheduler.specs.Orders.{started}
 use Rattle.scheduler.proofs.Scheduler.start.Statement.{statement}
 use Rattle.scheduler.proofs.Scheduler.start.Tie as tie
 
-empty-requires : tie.Need-empty-requires
-empty-requires c κs = search needs
-
-uncreated-requires : tie.Need-uncreated-requires
-uncreated-requires c κs = search needs
-
 returns : tie.Need-returns
 unfolding started
 returns c = rw (← c .uncreated .ensures, ← c .before .empty .ensures)
 
 pub start-spec : {M : Type 1} → statement M
-start-spec = tie.close (tie.spec empty-requires uncreated-requires returns)
+start-spec = tie.close (tie.spec (search needs) (search needs) returns)

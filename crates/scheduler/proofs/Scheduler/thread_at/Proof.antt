@@ -10,18 +10,6 @@ use Rattle.scheduler.proofs.Laws.Threads.{length-mapped}
 use Rattle.scheduler.proofs.Scheduler.thread_at.Statement.{statement}
 use Rattle.scheduler.proofs.Scheduler.thread_at.Tie as tie
 
-cast-i : tie.Need-cast-i
-cast-i c = search needs
-
-mul-result : tie.Need-mul-result
-mul-result c = search needs
-
-element-copy-out-result : tie.Need-element-copy-out-result
-element-copy-out-result c = search needs
-
-none-requires : tie.Need-none-requires
-none-requires c κs = search needs
-
 returns : tie.Need-returns
 unfolding threadAt
 returns c =
@@ -39,5 +27,4 @@ returns-2 c =
     c .none .ensures ∙ sym (List·getD-eq-default (a .t1 .threads) noThread h)
 
 pub thread-at-spec : {M : Type 1} → statement M
-thread-at-spec =
-    tie.close (tie.spec cast-i mul-result element-copy-out-result none-requires returns returns-2)
+thread-at-spec = tie.close (tie.spec (search needs) (search needs) (search needs) (search needs) returns returns-2)

@@ -9,9 +9,6 @@ use Rattle.scheduler.proofs.Laws.Orders.{thread-out}
 use Rattle.scheduler.proofs.Scheduler.with_thread.Statement.{statement}
 use Rattle.scheduler.proofs.Scheduler.with_thread.Tie as tie
 
-cast-i : tie.Need-cast-i
-cast-i c = search needs
-
 returns : tie.Need-returns
 returns c =
     let a = c .before .before .args in
@@ -19,15 +16,9 @@ returns c =
     let h : length (a .self .threads) ≤ a .t .0 = omega arith in
     sym (thread-out (a .self) (a .t .0) (a .th) h)
 
-mul-th : tie.Need-mul-th
-mul-th c = search needs
-
-element-set-from-th : tie.Need-element-set-from-th
-element-set-from-th c = search needs
-
 returns-2 : tie.Need-returns-2
 unfolding withThread
 returns-2 c = refl
 
 pub with-thread-spec : {M : Type 1} → statement M
-with-thread-spec = tie.close (tie.spec cast-i returns mul-th element-set-from-th returns-2)
+with-thread-spec = tie.close (tie.spec (search needs) returns (search needs) (search needs) returns-2)

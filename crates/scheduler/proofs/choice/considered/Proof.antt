@@ -3,12 +3,6 @@ use Rattle.scheduler.specs.Choice.{consideredOf}
 use Rattle.scheduler.proofs.choice.considered.Statement.{statement}
 use Rattle.scheduler.proofs.choice.considered.Tie as tie
 
-is-wanted-requires : tie.Need-is-wanted-requires
-is-wanted-requires c κs = search needs
-
-better-requires : tie.Need-better-requires
-better-requires c κs = search needs
-
 returns : tie.Need-returns
 unfolding consideredOf
 returns c = rw (← c .before .before .is-wanted .ensures, c .before .if1 .taken) (c .better .ensures)
@@ -18,4 +12,4 @@ unfolding consideredOf
 returns-2 c = rw (← c .before .is-wanted .ensures, c .if1 .left)
 
 pub considered-spec : {M : Type 1} → statement M
-considered-spec = tie.close (tie.spec is-wanted-requires better-requires returns returns-2)
+considered-spec = tie.close (tie.spec (search needs) (search needs) returns returns-2)

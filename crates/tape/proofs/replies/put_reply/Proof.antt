@@ -21,32 +21,11 @@ abbrev μ-loop : tie.MeasureT-loop
 still : (out words : List ℕ) (at j : ℕ) (now : List ℕ) → (j ≤ 19) × (at + 19 ≤ length out) × (length words ≡ 19) × (now ≡ paste out at words j) → length now ≡ length out
 still out words at j now v = ap length (v .3) ∙ length-paste out at words j (omega (arith, v .0, v .1)) (omega (arith, v .0, v .2))
 
-reply-words-requires : tie.Need-reply-words-requires Inv-loop μ-loop
-reply-words-requires c κs = search needs
-
-mul-at : tie.Need-mul-at Inv-loop μ-loop
-mul-at c = search needs
-
-add-if1 : tie.Need-add-if1 Inv-loop μ-loop
-add-if1 c = search needs
-
 loop-holds : tie.Need-loop-holds Inv-loop μ-loop
 loop-holds c =
     let a = c .before .before .before .args in
     let n : length (c .before .reply-words .result) ≡ 19 = search needs in
     (omega arith, c .if1 .taken, n, paste-zero (a .replies .now) (19 * a .i) (c .before .reply-words .result))
-
-mul-replies : tie.Need-mul-replies Inv-loop μ-loop
-mul-replies c = search needs
-
-array-read-replies : tie.Need-array-read-replies Inv-loop μ-loop
-array-read-replies c = search needs
-
-add-replies : tie.Need-add-replies Inv-loop μ-loop
-add-replies c = search needs
-
-mul-replies-2 : tie.Need-mul-replies-2 Inv-loop μ-loop
-mul-replies-2 c = search needs
 
 slice-write-replies : tie.Need-slice-write-replies Inv-loop μ-loop
 slice-write-replies c =
@@ -54,12 +33,6 @@ slice-write-replies c =
     let a = c .before .before .before .before .before .args in
     let k = still (a .replies .now) (c .before .before .before .reply-words .result) (19 * a .i) (l .j) (l .replies) (l .inv) in
     omega (arith, k)
-
-add-j : tie.Need-add-j Inv-loop μ-loop
-add-j c = search needs
-
-loop-less : tie.Need-loop-less Inv-loop μ-loop
-loop-less c = search needs
 
 loop-again : tie.Need-loop-again Inv-loop μ-loop
 loop-again c =
@@ -92,21 +65,5 @@ returns-2 c =
 pub put-reply-spec : {M : Type 1} → statement M
 put-reply-spec =
     tie.close
-    (tie.spec
-    Inv-loop
-    μ-loop
-    reply-words-requires
-    mul-at
-    add-if1
-    loop-holds
-    mul-replies
-    array-read-replies
-    add-replies
-    mul-replies-2
-    slice-write-replies
-    add-j
-    loop-less
-    loop-again
-    same-length
-    returns
-    returns-2)
+    (tie.spec Inv-loop μ-loop (search needs) (search needs) (search needs) loop-holds (search needs) (search needs) (search needs) (search needs)
+    slice-write-replies (search needs) (search needs) loop-again same-length returns returns-2)

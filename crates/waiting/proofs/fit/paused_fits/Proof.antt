@@ -6,19 +6,10 @@ use borrow.Author.Needs.{needs}
 use Rattle.waiting.proofs.fit.paused_fits.Statement.{statement}
 use Rattle.waiting.proofs.fit.paused_fits.Tie as tie
 
-is-paused-requires : tie.Need-is-paused-requires
-is-paused-requires c κs = search needs
-
 returns : tie.Need-returns
 returns c =
     let m = c .before .is-paused in
     rw (sym (m .ensures) ∙ not-true (m .result) (c .if1 .taken))
-
-joined-requires : tie.Need-joined-requires
-joined-requires c κs = search needs
-
-joined-requires-2 : tie.Need-joined-requires-2
-joined-requires-2 c κs = search needs
 
 returns-2 : tie.Need-returns-2
 returns-2 c =
@@ -66,15 +57,4 @@ returns-6 c =
     rw (p, c .before .before .before .before .before .before .before .before .before .before .before .joined2 .ensures) (paused-other (a .h) (a .th) p b e (c .before .before .if4 .left) (c .if5 .left))
 
 pub paused-fits-spec : {M : Type 1} → statement M
-paused-fits-spec =
-    tie.close
-    (tie.spec
-    is-paused-requires
-    returns
-    joined-requires
-    joined-requires-2
-    returns-2
-    returns-3
-    returns-4
-    returns-5
-    returns-6)
+paused-fits-spec = tie.close (tie.spec (search needs) returns (search needs) (search needs) returns-2 returns-3 returns-4 returns-5 returns-6)

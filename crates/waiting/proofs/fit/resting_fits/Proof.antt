@@ -4,12 +4,6 @@ use Rattle.waiting.proofs.Laws.Fit.{resting-sender, resting-front, rest
 use Rattle.waiting.proofs.fit.resting_fits.Statement.{statement}
 use Rattle.waiting.proofs.fit.resting_fits.Tie as tie
 
-joined-requires : tie.Need-joined-requires
-joined-requires c κs = search needs
-
-cast-any : tie.Need-cast-any
-cast-any c = search needs
-
 returns : tie.Need-returns
 returns c =
     let h = c .before .before .before .before .before .args .h in
@@ -29,5 +23,4 @@ returns-4 c =
     λ th made p. sym (resting-clean h (m .result) (m .ensures) th p made (c .before .before .before .if1 .left) (c .before .before .if2 .left) (c .before .if3 .left))
 
 pub resting-fits-spec : {M : Type 1} → statement M
-resting-fits-spec =
-    tie.close (tie.spec joined-requires cast-any returns returns-2 returns-3 returns-4)
+resting-fits-spec = tie.close (tie.spec (search needs) (search needs) returns returns-2 returns-3 returns-4)

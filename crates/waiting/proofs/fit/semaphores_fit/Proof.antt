@@ -24,21 +24,6 @@ loop-holds : tie.Need-loop-holds Inv-loop μ-loop
 unfolding allBelow
 loop-holds c = (omega arith, refl)
 
-mul-is-fit : tie.Need-mul-is-fit Inv-loop μ-loop
-mul-is-fit c = search needs
-
-array-copy-out-is-fit : tie.Need-array-copy-out-is-fit Inv-loop μ-loop
-array-copy-out-is-fit c = search needs
-
-is-fit-requires : tie.Need-is-fit-requires Inv-loop μ-loop
-is-fit-requires c κs = search needs
-
-add-n : tie.Need-add-n Inv-loop μ-loop
-add-n c = search needs
-
-loop-less : tie.Need-loop-less Inv-loop μ-loop
-loop-less c = search needs
-
 loop-again : tie.Need-loop-again Inv-loop μ-loop
 loop-again c =
     let a = c .before .before .before .before .args in
@@ -57,14 +42,4 @@ returns c =
 pub semaphores-fit-spec : {M : Type 1} → statement M
 semaphores-fit-spec =
     tie.close
-    (tie.spec
-    Inv-loop
-    μ-loop
-    loop-holds
-    mul-is-fit
-    array-copy-out-is-fit
-    is-fit-requires
-    add-n
-    loop-less
-    loop-again
-    returns)
+    (tie.spec Inv-loop μ-loop loop-holds (search needs) (search needs) (search needs) (search needs) (search needs) loop-again returns)

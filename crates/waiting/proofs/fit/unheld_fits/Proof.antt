@@ -4,15 +4,6 @@ use Rattle.waiting.proofs.Laws.Fit.{unheld-stained, unheld-clean, unhel
 use Rattle.waiting.proofs.fit.unheld_fits.Statement.{statement}
 use Rattle.waiting.proofs.fit.unheld_fits.Tie as tie
 
-joined-requires : tie.Need-joined-requires
-joined-requires c κs = search needs
-
-joined-requires-2 : tie.Need-joined-requires-2
-joined-requires-2 c κs = search needs
-
-cast-any : tie.Need-cast-any
-cast-any c = search needs
-
 returns : tie.Need-returns
 returns c =
     let h = c .before .before .before .before .before .before .before .before .args .h in
@@ -35,5 +26,4 @@ returns-3 c =
     λ th u. sym (unheld-clean h (m .result) (m .ensures) (w .result) (w .ensures) th u (c .before .before .if1 .left) (c .before .if2 .left))
 
 pub unheld-fits-spec : {M : Type 1} → statement M
-unheld-fits-spec =
-    tie.close (tie.spec joined-requires joined-requires-2 cast-any returns returns-2 returns-3)
+unheld-fits-spec = tie.close (tie.spec (search needs) (search needs) (search needs) returns returns-2 returns-3)

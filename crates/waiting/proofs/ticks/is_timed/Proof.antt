@@ -3,12 +3,9 @@ use Rattle.waiting.specs.Ticks.{timedb}
 use Rattle.waiting.proofs.ticks.is_timed.Statement.{statement}
 use Rattle.waiting.proofs.ticks.is_timed.Tie as tie
 
-is-paused-requires : tie.Need-is-paused-requires
-is-paused-requires c κs = search needs
-
 returns : tie.Need-returns
 unfolding timedb
 returns c = rw (c .before .is-paused .ensures)
 
 pub is-timed-spec : {M : Type 1} → statement M
-is-timed-spec = tie.close (tie.spec is-paused-requires returns)
+is-timed-spec = tie.close (tie.spec (search needs) returns)

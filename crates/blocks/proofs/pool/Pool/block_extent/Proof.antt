@@ -6,15 +6,6 @@ use Rattle.blocks.proofs.Laws.Views.{inside, shown-used, extent-shown, 
 use Rattle.blocks.proofs.pool.Pool.block_extent.Statement.{statement}
 use Rattle.blocks.proofs.pool.Pool.block_extent.Tie as tie
 
-cast-length : tie.Need-cast-length
-cast-length c = search needs
-
-is-viewed-requires : tie.Need-is-viewed-requires
-is-viewed-requires c κs = search needs
-
-add-start : tie.Need-add-start
-add-start c = search needs
-
 mul-start : tie.Need-mul-start
 unfolding blockStart
 mul-start c =
@@ -41,6 +32,4 @@ returns-2 c =
     sym (extent-none (a .self) (a .block) (a .len) (sym (c .before .is-viewed .ensures) ∙ c .if1 .left))
 
 pub block-extent-spec : {M : Type 1} → statement M
-block-extent-spec =
-    tie.close
-    (tie.spec cast-length is-viewed-requires add-start mul-start add-start-2 returns returns-2)
+block-extent-spec = tie.close (tie.spec (search needs) (search needs) (search needs) mul-start add-start-2 returns returns-2)

@@ -9,21 +9,12 @@ use Rattle.blocks.proofs.Laws.Views.{extent-shown, extent-inside, exten
 use Rattle.blocks.proofs.pool.Pool.block_view.Statement.{statement}
 use Rattle.blocks.proofs.pool.Pool.block_view.Tie as tie
 
-block-extent-requires : tie.Need-block-extent-requires
-block-extent-requires c κs = search needs
-
 add-end : tie.Need-add-end
 add-end c =
     let a = c .before .before .before .args in
     let e = c .before .block-extent in
     let h = extent-inside (a .self) (a .block) (length (a .area .now)) (e .result) (e .ensures) in
     omega (arith, h)
-
-sub-result : tie.Need-sub-result
-sub-result c = search needs
-
-part-area-start : tie.Need-part-area-start
-part-area-start c = search needs
 
 part-area-end : tie.Need-part-area-end
 part-area-end c =
@@ -40,6 +31,4 @@ returns c =
     (extent-viewed (a .self) (a .block) (a .area .now) (e .result) (e .ensures), λ v. ap (λ (x : Extent). (a .area .ptr .0, x .start + a .area .ptr .1)) (e .ensures ∙ extent-shown (a .self) (a .block) (length (a .area .now)) v))
 
 pub block-view-spec : {M : Type 1} → statement M
-block-view-spec =
-    tie.close
-    (tie.spec block-extent-requires add-end sub-result part-area-start part-area-end returns)
+block-view-spec = tie.close (tie.spec (search needs) add-end (search needs) (search needs) part-area-end returns)

@@ -20,12 +20,6 @@ abbrev μ-loop : tie.MeasureT-loop
 still : (area₀ bytes : List ℕ) (start n i : ℕ) (area : List ℕ) → (i ≤ n) × (n ≤ length bytes) × (start + n ≤ length area₀) × (area ≡ paste area₀ start bytes i) → length area ≡ length area₀
 still area₀ bytes start n i area v = ap length (v .3) ∙ length-paste area₀ start bytes i (omega (arith, v .0, v .2)) (omega (arith, v .0, v .1))
 
-block-extent-requires : tie.Need-block-extent-requires Inv-loop μ-loop
-block-extent-requires c κs = search needs
-
-lesser-requires : tie.Need-lesser-requires Inv-loop μ-loop
-lesser-requires c κs = search needs
-
 loop-holds : tie.Need-loop-holds Inv-loop μ-loop
 loop-holds c =
     let a = c .before .before .before .before .args in
@@ -34,24 +28,12 @@ loop-holds c =
     let h = extent-inside (a .self) (a .block) (length (a .area .now)) (e .result) (e .ensures) in
     (omega arith, omega (arith, n), omega (arith, n, h), paste-zero (a .area .now) (e .result .start) (a .bytes .now))
 
-shared-slice-read-area : tie.Need-shared-slice-read-area Inv-loop μ-loop
-shared-slice-read-area c = search needs
-
-add-area : tie.Need-add-area Inv-loop μ-loop
-add-area c = search needs
-
 slice-write-area : tie.Need-slice-write-area Inv-loop μ-loop
 slice-write-area c =
     let l = c .before .before .loop in
     let a = c .before .before .before .before .before .before .before .args in
     let k = still (a .area .now) (a .bytes .now) (c .before .before .before .before .block-extent .result .start) (c .before .before .before .lesser .result) (l .i) (l .area) (l .inv) in
     omega (arith, k)
-
-add-i : tie.Need-add-i Inv-loop μ-loop
-add-i c = search needs
-
-loop-less : tie.Need-loop-less Inv-loop μ-loop
-loop-less c = search needs
 
 loop-again : tie.Need-loop-again Inv-loop μ-loop
 loop-again c =
@@ -78,17 +60,5 @@ returns c =
 pub block-write-spec : {M : Type 1} → statement M
 block-write-spec =
     tie.close
-    (tie.spec
-    Inv-loop
-    μ-loop
-    block-extent-requires
-    lesser-requires
-    loop-holds
-    shared-slice-read-area
-    add-area
-    slice-write-area
-    add-i
-    loop-less
-    loop-again
-    same-length
-    returns)
+    (tie.spec Inv-loop μ-loop (search needs) (search needs) loop-holds (search needs) (search needs) slice-write-area (search needs) (search needs)
+    loop-again same-length returns)

@@ -18,12 +18,6 @@ Inv-loop list n any₀ i₀ any i = (n ≤ i) × (i ≤ 64) × (length list ≡ 
 abbrev μ-loop : tie.MeasureT-loop
 μ-loop list n any₀ i₀ any i = 64 - i
 
-listed-requires : tie.Need-listed-requires Inv-loop μ-loop
-listed-requires c κs = search needs
-
-cast-n : tie.Need-cast-n Inv-loop μ-loop
-cast-n c = search needs
-
 loop-holds : tie.Need-loop-holds Inv-loop μ-loop
 unfolding freeBlocks
 loop-holds c =
@@ -32,15 +26,6 @@ loop-holds c =
     let e : length (a .list) ≡ 64 = search needs in
     let m : n ≡ min (a .free) 64 = omega (arith, c .listed .ensures, length-take (a .free) (a .list), e) in
     (omega arith, omega (arith, m), e, tail-start n n (a .list) (omega arith))
-
-array-read-any : tie.Need-array-read-any Inv-loop μ-loop
-array-read-any c = search needs
-
-add-i : tie.Need-add-i Inv-loop μ-loop
-add-i c = search needs
-
-loop-less : tie.Need-loop-less Inv-loop μ-loop
-loop-less c = search needs
 
 loop-again : tie.Need-loop-again Inv-loop μ-loop
 loop-again c =
@@ -63,14 +48,4 @@ returns c =
 pub is-clean-spec : {M : Type 1} → statement M
 is-clean-spec =
     tie.close
-    (tie.spec
-    Inv-loop
-    μ-loop
-    listed-requires
-    cast-n
-    loop-holds
-    array-read-any
-    add-i
-    loop-less
-    loop-again
-    returns)
+    (tie.spec Inv-loop μ-loop (search needs) (search needs) loop-holds (search needs) (search needs) (search needs) loop-again returns)

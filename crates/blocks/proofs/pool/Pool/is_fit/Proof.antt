@@ -5,21 +5,6 @@ use Rattle.blocks.proofs.Laws.Pools
 use Rattle.blocks.proofs.pool.Pool.is_fit.Statement.{statement}
 use Rattle.blocks.proofs.pool.Pool.is_fit.Tie as tie
 
-is-clean-requires : tie.Need-is-clean-requires
-is-clean-requires c κs = search needs
-
-cast-free : tie.Need-cast-free
-cast-free c = search needs
-
-is-limited-requires : tie.Need-is-limited-requires
-is-limited-requires c κs = search needs
-
-blocks-requires : tie.Need-blocks-requires
-blocks-requires c κs = search needs
-
-is-listing-requires : tie.Need-is-listing-requires
-is-listing-requires c κs = search needs
-
 returns : tie.Need-returns
 unfolding listFitb
 returns c = rw (c .before .before .is-limited .ensures, c .before .blocks2 .ensures, c .is-listing .ensures, c .before .before .before .before .before .is-clean .ensures) (sym (Pools.fit-created (c .before .before .before .before .before .before .args .self) (c .before .before .before .before .if1 .taken)))
@@ -28,13 +13,4 @@ returns-2 : tie.Need-returns-2
 returns-2 c = rw (c .before .before .before .before .is-clean .ensures) (Pools.zero-list (c .before .before .before .before .before .args .self) ∙ sym (Pools.fit-uncreated (c .before .before .before .before .before .args .self) (c .before .before .before .if1 .left)))
 
 pub is-fit-spec : {M : Type 1} → statement M
-is-fit-spec =
-    tie.close
-    (tie.spec
-    is-clean-requires
-    cast-free
-    is-limited-requires
-    blocks-requires
-    is-listing-requires
-    returns
-    returns-2)
+is-fit-spec = tie.close (tie.spec (search needs) (search needs) (search needs) (search needs) (search needs) returns returns-2)

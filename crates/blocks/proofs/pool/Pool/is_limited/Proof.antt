@@ -3,15 +3,9 @@ use Rattle.blocks.specs.Pools.{poolLimitsb}
 use Rattle.blocks.proofs.pool.Pool.is_limited.Statement.{statement}
 use Rattle.blocks.proofs.pool.Pool.is_limited.Tie as tie
 
-cast-sizes-fit : tie.Need-cast-sizes-fit
-cast-sizes-fit c = search needs
-
-sizes-fit-requires : tie.Need-sizes-fit-requires
-sizes-fit-requires c κs = search needs
-
 returns : tie.Need-returns
 unfolding poolLimitsb
 returns c = c .sizes-fit .ensures
 
 pub is-limited-spec : {M : Type 1} → statement M
-is-limited-spec = tie.close (tie.spec cast-sizes-fit sizes-fit-requires returns)
+is-limited-spec = tie.close (tie.spec (search needs) (search needs) returns)

@@ -21,15 +21,6 @@ Inv-loop list blocks n counts₀ i₀ counts i = (i ≤ n) × (n ≤ 64) × (len
 abbrev μ-loop : tie.MeasureT-loop
 μ-loop list blocks n counts₀ i₀ counts i = n - i
 
-blocks-requires : tie.Need-blocks-requires Inv-loop μ-loop
-blocks-requires c κs = search needs
-
-listed-requires : tie.Need-listed-requires Inv-loop μ-loop
-listed-requires c κs = search needs
-
-cast-n : tie.Need-cast-n Inv-loop μ-loop
-cast-n c = search needs
-
 loop-holds : tie.Need-loop-holds Inv-loop μ-loop
 unfolding count below onceb allBelow freeBlocks
 loop-holds c =
@@ -37,18 +28,6 @@ loop-holds c =
     let e : length (a .self .list) ≡ 64 = search needs in
     let m = length-take (a .self .free) (a .self .list) in
     (omega arith, omega (arith, c .listed .ensures, m, e), e, refl, λ k l. getD-replicate 64 k 0 0 l, refl, refl)
-
-array-read-x : tie.Need-array-read-x Inv-loop μ-loop
-array-read-x c = search needs
-
-cast-k : tie.Need-cast-k Inv-loop μ-loop
-cast-k c = search needs
-
-add-i : tie.Need-add-i Inv-loop μ-loop
-add-i c = search needs
-
-cast-if1 : tie.Need-cast-if1 Inv-loop μ-loop
-cast-if1 c = search needs
 
 returns : tie.Need-returns Inv-loop μ-loop
 unfolding listingb freeBlocks
@@ -64,9 +43,6 @@ returns c =
     let f = below-broken (b .result) (l .i) (m .result) xs (c .before .loop-test .taken) h o in
     sym (ap (λ (r : Bool). r && onceb (take (a .free) xs)) (sym (ap₂ below (b .ensures) t) ∙ f))
 
-array-read-if3 : tie.Need-array-read-if3 Inv-loop μ-loop
-array-read-if3 c = search needs
-
 returns-2 : tie.Need-returns-2 Inv-loop μ-loop
 unfolding listingb freeBlocks
 returns-2 c =
@@ -80,9 +56,6 @@ returns-2 c =
     let f = once-broken (l .i) (m .result) xs (c .before .before .before .loop-test .taken) h s (λ z. c .if3 .taken (l .inv .4 (getD xs (l .i) 0) s ∙ z)) in
     sym (ap (λ (r : Bool). below (blocksOf a) (take (a .free) xs) && r) (sym (ap onceb t) ∙ f) ∙ and-false (below (blocksOf a) (take (a .free) xs)))
 
-array-read-counts : tie.Need-array-read-counts Inv-loop μ-loop
-array-read-counts c = search needs
-
 add-counts : tie.Need-add-counts Inv-loop μ-loop
 add-counts c =
     let a = c .before .before .before .before .before .before .before .before .args .self in
@@ -94,12 +67,6 @@ add-counts c =
     let s = count-small x (take (l .i) xs) in
     let m = length-take (l .i) xs in
     omega (arith, t, s, m)
-
-array-write-counts : tie.Need-array-write-counts Inv-loop μ-loop
-array-write-counts c = search needs
-
-loop-less : tie.Need-loop-less Inv-loop μ-loop
-loop-less c = search needs
 
 loop-again : tie.Need-loop-again Inv-loop μ-loop
 loop-again c =
@@ -114,9 +81,6 @@ loop-again c =
     let z = sym (l .inv .4 (getD xs (l .i) 0) s) ∙ c .if3 .left in
     let u = sym (once-more (l .i) xs h s) ∙ and-in (onceb (take (l .i) xs)) (eqb (count (getD xs (l .i) 0) (take (l .i) xs)) 0) (l .inv .6) (eq-eqb (count (getD xs (l .i) 0) (take (l .i) xs)) 0 z) in
     (omega arith, l .inv .1, l .inv .2, simp length-set (l .inv .3), tallied-more (l .counts) xs (l .i) (l .inv .3) h s (l .inv .4), k, u)
-
-loop-less-2 : tie.Need-loop-less-2 Inv-loop μ-loop
-loop-less-2 c = search needs
 
 loop-again-2 : tie.Need-loop-again-2 Inv-loop μ-loop
 loop-again-2 c =
@@ -146,25 +110,5 @@ returns-3 c =
 pub is-listing-spec : {M : Type 1} → statement M
 is-listing-spec =
     tie.close
-    (tie.spec
-    Inv-loop
-    μ-loop
-    blocks-requires
-    listed-requires
-    cast-n
-    loop-holds
-    array-read-x
-    cast-k
-    add-i
-    cast-if1
-    returns
-    array-read-if3
-    returns-2
-    array-read-counts
-    add-counts
-    array-write-counts
-    loop-less
-    loop-again
-    loop-less-2
-    loop-again-2
-    returns-3)
+    (tie.spec Inv-loop μ-loop (search needs) (search needs) (search needs) loop-holds (search needs) (λ c. search needs) (search needs) (λ c. search needs)
+    returns (search needs) returns-2 (search needs) add-counts (search needs) (search needs) loop-again (search needs) loop-again-2 returns-3)

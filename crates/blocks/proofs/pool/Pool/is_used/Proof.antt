@@ -18,15 +18,6 @@ Inv-loop n list listed used₀ i₀ used i = (i ≤ listed) × (listed ≤ 64) �
 abbrev μ-loop : tie.MeasureT-loop
 μ-loop n list listed used₀ i₀ used i = listed - i
 
-listed-requires : tie.Need-listed-requires Inv-loop μ-loop
-listed-requires c κs = search needs
-
-cast-listed : tie.Need-cast-listed Inv-loop μ-loop
-cast-listed c = search needs
-
-blocks-requires : tie.Need-blocks-requires Inv-loop μ-loop
-blocks-requires c κs = search needs
-
 loop-holds : tie.Need-loop-holds Inv-loop μ-loop
 unfolding count freeBlocks
 loop-holds c =
@@ -34,18 +25,6 @@ loop-holds c =
     let e : length (s .list) ≡ 64 = search needs in
     let m = length-take (s .free) (s .list) in
     (omega arith, omega (arith, c .before .listed .ensures, m, e), e, sym (and-true _))
-
-array-read-used : tie.Need-array-read-used Inv-loop μ-loop
-array-read-used c = search needs
-
-cast-used : tie.Need-cast-used Inv-loop μ-loop
-cast-used c = search needs
-
-add-i : tie.Need-add-i Inv-loop μ-loop
-add-i c = search needs
-
-loop-less : tie.Need-loop-less Inv-loop μ-loop
-loop-less c = search needs
 
 loop-again : tie.Need-loop-again Inv-loop μ-loop
 loop-again c =
@@ -66,16 +45,5 @@ returns c =
 pub is-used-spec : {M : Type 1} → statement M
 is-used-spec =
     tie.close
-    (tie.spec
-    Inv-loop
-    μ-loop
-    listed-requires
-    cast-listed
-    blocks-requires
-    loop-holds
-    array-read-used
-    cast-used
-    add-i
-    loop-less
-    loop-again
-    returns)
+    (tie.spec Inv-loop μ-loop (search needs) (search needs) (search needs) loop-holds (search needs) (λ c. search needs) (search needs) (search needs)
+    loop-again returns)

@@ -24,15 +24,6 @@ loop-holds c =
     let e : length (c .before .args .self .list) ≡ 64 = search needs in
     (omega arith, e, refl)
 
-array-read-any : tie.Need-array-read-any Inv-loop μ-loop
-array-read-any c = search needs
-
-add-i : tie.Need-add-i Inv-loop μ-loop
-add-i c = search needs
-
-loop-less : tie.Need-loop-less Inv-loop μ-loop
-loop-less c = search needs
-
 loop-again : tie.Need-loop-again Inv-loop μ-loop
 loop-again c =
     let l = c .before .loop in
@@ -47,6 +38,4 @@ returns c =
     rw (l .inv .2, e)
 
 pub is-zero-spec : {M : Type 1} → statement M
-is-zero-spec =
-    tie.close
-    (tie.spec Inv-loop μ-loop loop-holds array-read-any add-i loop-less loop-again returns)
+is-zero-spec = tie.close (tie.spec Inv-loop μ-loop loop-holds (search needs) (search needs) (search needs) loop-again returns)

@@ -3,15 +3,9 @@ use Rattle.blocks.specs.Pools.{listing}
 use Rattle.blocks.proofs.pool.Pool.listing.Statement.{statement}
 use Rattle.blocks.proofs.pool.Pool.listing.Tie as tie
 
-count-in-requires : tie.Need-count-in-requires
-count-in-requires c κs = search needs
-
-packed-requires : tie.Need-packed-requires
-packed-requires c κs = search needs
-
 returns : tie.Need-returns
 unfolding listing
 returns c = rw (c .before .count-in .ensures, c .packed .ensures)
 
 pub listing-spec : {M : Type 1} → statement M
-listing-spec = tie.close (tie.spec count-in-requires packed-requires returns)
+listing-spec = tie.close (tie.spec (search needs) (search needs) returns)

@@ -8,9 +8,6 @@ use Rattle.blocks.specs.Pools.{freeBlocks, nextBlock}
 use Rattle.blocks.proofs.pool.Pool.next.Statement.{statement}
 use Rattle.blocks.proofs.pool.Pool.next.Tie as tie
 
-element-copy-out-result : tie.Need-element-copy-out-result
-element-copy-out-result c = search needs
-
 returns : tie.Need-returns
 unfolding nextBlock freeBlocks
 returns c = rw (c .if1 .taken)
@@ -23,4 +20,4 @@ returns-2 c =
     getD-any (s .list) 0 0 64 (omega (arith, e)) ∙ sym (getD-take (s .free) (s .list) 0 64 (omega (arith, c .before .if1 .left)))
 
 pub next-spec : {M : Type 1} → statement M
-next-spec = tie.close (tie.spec element-copy-out-result returns returns-2)
+next-spec = tie.close (tie.spec (search needs) returns returns-2)

@@ -6,15 +6,6 @@ use Rattle.blocks.proofs.Laws.Pools.{listed-most, listed-free}
 use Rattle.blocks.proofs.pool.Pool.with_free.Statement.{statement}
 use Rattle.blocks.proofs.pool.Pool.with_free.Tie as tie
 
-listed-requires : tie.Need-listed-requires
-listed-requires c κs = search needs
-
-cast-k : tie.Need-cast-k
-cast-k c = search needs
-
-slice-aggregate-listing : tie.Need-slice-aggregate-listing
-slice-aggregate-listing c = search needs
-
 array-share-prefix-list : tie.Need-array-share-prefix-list
 array-share-prefix-list c = listed-most (c .before .before .before .args .self) _ (c .before .listed .ensures)
 
@@ -23,9 +14,6 @@ slice-aggregate-listing-2 c =
     let p = c .before .before .before .before .args .self in
     sym (length-take-le (c .before .before .listed .result) (p .list) (listed-most p _ (c .before .before .listed .ensures)))
 
-listing-requires : tie.Need-listing-requires
-listing-requires c κs = search needs
-
 returns : tie.Need-returns
 unfolding withFree
 returns c = rw (c .listing .ensures, listed-free (c .before .before .before .before .before .args .self) _ (c .before .before .before .listed .ensures))
@@ -33,11 +21,4 @@ returns c = rw (c .listing .ensures, listed-free (c .before .before .before .bef
 pub with-free-spec : {M : Type 1} → statement M
 with-free-spec =
     tie.close
-    (tie.spec
-    listed-requires
-    cast-k
-    slice-aggregate-listing
-    array-share-prefix-list
-    slice-aggregate-listing-2
-    listing-requires
-    returns)
+    (tie.spec (search needs) (search needs) (search needs) array-share-prefix-list slice-aggregate-listing-2 (search needs) returns)

@@ -5,9 +5,6 @@ use Rattle.objects.specs.Queues.{capacityOf}
 use Rattle.objects.proofs.queue.Queue.capacity.Statement.{statement}
 use Rattle.objects.proofs.queue.Queue.capacity.Tie as tie
 
-div-result : tie.Need-div-result
-div-result c = search needs
-
 returns : tie.Need-returns
 unfolding capacityOf
 returns c = rw (c .if1 .taken, div-zero)
@@ -17,4 +14,4 @@ unfolding capacityOf
 returns-2 c = refl
 
 pub capacity-spec : {M : Type 1} → statement M
-capacity-spec = tie.close (tie.spec div-result returns returns-2)
+capacity-spec = tie.close (tie.spec (search needs) returns returns-2)

@@ -4,12 +4,9 @@ use Rattle.lines.specs.Lines.{pad}
 use Rattle.objects.proofs.queue.Queue.flushed.Statement.{statement}
 use Rattle.objects.proofs.queue.Queue.flushed.Tie as tie
 
-storing-requires : tie.Need-storing-requires
-storing-requires c κs = search needs
-
 returns : tie.Need-returns
 unfolding flushed storing pad
 returns c = c .storing .ensures
 
 pub flushed-spec : {M : Type 1} → statement M
-flushed-spec = tie.close (tie.spec storing-requires returns)
+flushed-spec = tie.close (tie.spec (search needs) returns)

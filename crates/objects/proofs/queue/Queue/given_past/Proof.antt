@@ -3,9 +3,6 @@ use Rattle.objects.specs.Queues.{oldest, givenPast}
 use Rattle.objects.proofs.queue.Queue.given_past.Statement.{statement}
 use Rattle.objects.proofs.queue.Queue.given_past.Tie as tie
 
-oldest-requires : tie.Need-oldest-requires
-oldest-requires c κs = search needs
-
 returns : tie.Need-returns
 unfolding givenPast
 returns c = rw (c .if1 .taken)
@@ -15,4 +12,4 @@ unfolding givenPast
 returns-2 c = rw (c .oldest .ensures, c .before .if1 .left)
 
 pub given-past-spec : {M : Type 1} → statement M
-given-past-spec = tie.close (tie.spec oldest-requires returns returns-2)
+given-past-spec = tie.close (tie.spec (search needs) returns returns-2)

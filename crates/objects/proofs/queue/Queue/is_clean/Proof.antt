@@ -18,9 +18,6 @@ Inv-loop store n any₀ i₀ any i = (n ≤ i) × (i ≤ 64) × (length store �
 abbrev μ-loop : tie.MeasureT-loop
 μ-loop store n any₀ i₀ any i = 64 - i
 
-used-requires : tie.Need-used-requires Inv-loop μ-loop
-used-requires c κs = search needs
-
 loop-holds : tie.Need-loop-holds Inv-loop μ-loop
 unfolding usedWords
 loop-holds c =
@@ -29,18 +26,6 @@ loop-holds c =
     let e : length (a .store) ≡ 64 = search needs in
     let m : n ≡ min (a .stored * a .words) 64 = c .used .ensures in
     (omega arith, omega (arith, m), e, tail-start n n (a .store) (omega arith))
-
-mul-any : tie.Need-mul-any Inv-loop μ-loop
-mul-any c = search needs
-
-array-read-any : tie.Need-array-read-any Inv-loop μ-loop
-array-read-any c = search needs
-
-add-i : tie.Need-add-i Inv-loop μ-loop
-add-i c = search needs
-
-loop-less : tie.Need-loop-less Inv-loop μ-loop
-loop-less c = search needs
 
 loop-again : tie.Need-loop-again Inv-loop μ-loop
 loop-again c =
@@ -63,14 +48,4 @@ returns c =
 pub is-clean-spec : {M : Type 1} → statement M
 is-clean-spec =
     tie.close
-    (tie.spec
-    Inv-loop
-    μ-loop
-    used-requires
-    loop-holds
-    mul-any
-    array-read-any
-    add-i
-    loop-less
-    loop-again
-    returns)
+    (tie.spec Inv-loop μ-loop (search needs) loop-holds (search needs) (search needs) (search needs) (search needs) loop-again returns)

@@ -5,15 +5,6 @@ use Rattle.objects.proofs.Laws.Queues
 use Rattle.objects.proofs.queue.Queue.is_fit.Statement.{statement}
 use Rattle.objects.proofs.queue.Queue.is_fit.Tie as tie
 
-is-clean-requires : tie.Need-is-clean-requires
-is-clean-requires c κs = search needs
-
-capacity-requires : tie.Need-capacity-requires
-capacity-requires c κs = search needs
-
-is-limited-requires : tie.Need-is-limited-requires
-is-limited-requires c κs = search needs
-
 returns : tie.Need-returns
 unfolding storeFitb
 returns c = rw (c .before .is-limited .ensures, c .before .before .capacity .ensures, c .before .before .before .before .is-clean .ensures) (sym (Queues.fit-created (c .before .before .before .before .before .args .self) (c .before .before .before .if1 .taken)))
@@ -22,5 +13,4 @@ returns-2 : tie.Need-returns-2
 returns-2 c = rw (c .before .before .before .before .is-clean .ensures) (Queues.zero-store (c .before .before .before .before .before .args .self) ∙ sym (Queues.fit-uncreated (c .before .before .before .before .before .args .self) (c .before .before .before .if1 .left)))
 
 pub is-fit-spec : {M : Type 1} → statement M
-is-fit-spec =
-    tie.close (tie.spec is-clean-requires capacity-requires is-limited-requires returns returns-2)
+is-fit-spec = tie.close (tie.spec (search needs) (search needs) (search needs) returns returns-2)

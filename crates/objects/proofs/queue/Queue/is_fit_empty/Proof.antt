@@ -5,16 +5,10 @@ use Rattle.objects.proofs.Laws.Queues.{empty-stained, empty-limits, emp
 use Rattle.objects.proofs.queue.Queue.is_fit_empty.Statement.{statement}
 use Rattle.objects.proofs.queue.Queue.is_fit_empty.Tie as tie
 
-is-empty-requires : tie.Need-is-empty-requires
-is-empty-requires c κs = search needs
-
 returns : tie.Need-returns
 returns c =
     let m = c .before .is-empty in
     rw (sym (m .ensures) ∙ not-true (m .result) (c .if1 .taken))
-
-is-blank-requires : tie.Need-is-blank-requires
-is-blank-requires c κs = search needs
 
 returns-2 : tie.Need-returns-2
 returns-2 c =
@@ -24,9 +18,6 @@ returns-2 c =
     let w = sym (m .ensures) ∙ not-false (m .result) (c .before .before .if1 .left) in
     let z = sym (b .ensures) ∙ not-true (b .result) (c .if2 .taken) in
     rw w (sym (empty-stained q w z))
-
-is-limited-requires : tie.Need-is-limited-requires
-is-limited-requires c κs = search needs
 
 returns-3 : tie.Need-returns-3
 returns-3 c =
@@ -47,13 +38,4 @@ returns-4 c =
     rw w (sym (empty-zero q w z (c .before .before .if3 .left)))
 
 pub is-fit-empty-spec : {M : Type 1} → statement M
-is-fit-empty-spec =
-    tie.close
-    (tie.spec
-    is-empty-requires
-    returns
-    is-blank-requires
-    returns-2
-    is-limited-requires
-    returns-3
-    returns-4)
+is-fit-empty-spec = tie.close (tie.spec (search needs) returns (search needs) returns-2 (search needs) returns-3 returns-4)

@@ -3,12 +3,6 @@ use Rattle.objects.specs.Queues.{withSent, leftPast}
 use Rattle.objects.proofs.queue.Queue.left_past.Statement.{statement}
 use Rattle.objects.proofs.queue.Queue.left_past.Tie as tie
 
-without-oldest-requires : tie.Need-without-oldest-requires
-without-oldest-requires c κs = search needs
-
-with-sent-requires : tie.Need-with-sent-requires
-with-sent-requires c κs = search needs
-
 returns : tie.Need-returns
 unfolding leftPast
 returns c = rw (c .if1 .taken)
@@ -18,4 +12,4 @@ unfolding leftPast withSent
 returns-2 c = rw (c .with-sent .ensures, c .before .without-oldest .ensures, c .before .before .if1 .left)
 
 pub left-past-spec : {M : Type 1} → statement M
-left-past-spec = tie.close (tie.spec without-oldest-requires with-sent-requires returns returns-2)
+left-past-spec = tie.close (tie.spec (search needs) (search needs) returns returns-2)

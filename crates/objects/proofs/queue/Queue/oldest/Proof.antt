@@ -8,12 +8,6 @@ use Rattle.objects.proofs.Laws.Queues.{words-oldest}
 use Rattle.objects.proofs.queue.Queue.oldest.Statement.{statement}
 use Rattle.objects.proofs.queue.Queue.oldest.Tie as tie
 
-used-requires : tie.Need-used-requires
-used-requires c κs = search needs
-
-at-most-requires : tie.Need-at-most-requires
-at-most-requires c κs = search needs
-
 array-share-prefix-store : tie.Need-array-share-prefix-store
 array-share-prefix-store c =
     let e : length (c .before .before .before .args .self .store) ≡ 64 = search needs in
@@ -24,9 +18,6 @@ slice-aggregate-message-of c =
     let e : length (c .before .before .before .before .args .self .store) ≡ 64 = search needs in
     sym (length-take-le (c .before .at-most .result) (c .before .before .before .before .args .self .store) (omega (arith, e, c .before .before .used .ensures, c .before .at-most .ensures)))
 
-message-of-requires : tie.Need-message-of-requires
-message-of-requires c κs = search needs
-
 returns : tie.Need-returns
 unfolding oldest
 returns c =
@@ -35,12 +26,4 @@ returns c =
     rw (c .message-of .ensures, words-oldest q e _ (c .before .before .before .used .ensures) _ (c .before .before .at-most .ensures))
 
 pub oldest-spec : {M : Type 1} → statement M
-oldest-spec =
-    tie.close
-    (tie.spec
-    used-requires
-    at-most-requires
-    array-share-prefix-store
-    slice-aggregate-message-of
-    message-of-requires
-    returns)
+oldest-spec = tie.close (tie.spec (search needs) (search needs) array-share-prefix-store slice-aggregate-message-of (search needs) returns)

@@ -5,12 +5,6 @@ use Rattle.lines.proofs.Laws.Slots.{product-small}
 use Rattle.objects.proofs.queue.Queue.used.Statement.{statement}
 use Rattle.objects.proofs.queue.Queue.used.Tie as tie
 
-cast-words : tie.Need-cast-words
-cast-words c = search needs
-
-cast-words-2 : tie.Need-cast-words-2
-cast-words-2 c = search needs
-
 mul-words : tie.Need-mul-words
 mul-words c =
     let s = c .before .before .args .self in
@@ -26,4 +20,4 @@ unfolding usedWords
 returns-2 c = omega (arith, c .if1 .left)
 
 pub used-spec : {M : Type 1} → statement M
-used-spec = tie.close (tie.spec cast-words cast-words-2 mul-words returns returns-2)
+used-spec = tie.close (tie.spec (search needs) (search needs) mul-words returns returns-2)

@@ -3,12 +3,6 @@ use Rattle.objects.specs.Queues.{withSent}
 use Rattle.objects.proofs.queue.Queue.with_sent.Statement.{statement}
 use Rattle.objects.proofs.queue.Queue.with_sent.Tie as tie
 
-with-first-requires : tie.Need-with-first-requires
-with-first-requires c κs = search needs
-
-with-last-requires : tie.Need-with-last-requires
-with-last-requires c κs = search needs
-
 returns : tie.Need-returns
 unfolding withSent
 returns c = rw (c .with-first .ensures, c .before .if1 .taken)
@@ -18,4 +12,4 @@ unfolding withSent
 returns-2 c = rw (c .with-last .ensures, c .before .if1 .left)
 
 pub with-sent-spec : {M : Type 1} → statement M
-with-sent-spec = tie.close (tie.spec with-first-requires with-last-requires returns returns-2)
+with-sent-spec = tie.close (tie.spec (search needs) (search needs) returns returns-2)

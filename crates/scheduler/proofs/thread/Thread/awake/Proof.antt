@@ -3,12 +3,6 @@ use Rattle.scheduler.specs.Threads.{inState, awake}
 use Rattle.scheduler.proofs.thread.Thread.awake.Statement.{statement}
 use Rattle.scheduler.proofs.thread.Thread.awake.Tie as tie
 
-in-state-requires : tie.Need-in-state-requires
-in-state-requires c κs = search needs
-
-in-state-requires-2 : tie.Need-in-state-requires-2
-in-state-requires-2 c κs = search needs
-
 returns : tie.Need-returns
 unfolding awake inState
 returns c = rw (c .before .if1 .taken) (c .in-state .ensures)
@@ -18,4 +12,4 @@ unfolding awake inState
 returns-2 c = rw (c .before .if1 .left) (c .in-state2 .ensures)
 
 pub awake-spec : {M : Type 1} → statement M
-awake-spec = tie.close (tie.spec in-state-requires in-state-requires-2 returns returns-2)
+awake-spec = tie.close (tie.spec (search needs) (search needs) returns returns-2)

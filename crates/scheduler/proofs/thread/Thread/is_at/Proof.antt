@@ -3,15 +3,9 @@ use Rattle.scheduler.specs.Threads.{placedb}
 use Rattle.scheduler.proofs.thread.Thread.is_at.Statement.{statement}
 use Rattle.scheduler.proofs.thread.Thread.is_at.Tie as tie
 
-is-standing-requires : tie.Need-is-standing-requires
-is-standing-requires c κs = search needs
-
-number-requires : tie.Need-number-requires
-number-requires c κs = search needs
-
 returns : tie.Need-returns
 unfolding placedb
 returns c = rw (c .before .before .before .before .is-standing .ensures, c .before .number .ensures)
 
 pub is-at-spec : {M : Type 1} → statement M
-is-at-spec = tie.close (tie.spec is-standing-requires number-requires returns)
+is-at-spec = tie.close (tie.spec (search needs) (search needs) returns)

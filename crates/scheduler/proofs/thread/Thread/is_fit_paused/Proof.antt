@@ -3,14 +3,8 @@ use Rattle.scheduler.proofs.Laws.Placing.{paused-fit}
 use Rattle.scheduler.proofs.thread.Thread.is_fit_paused.Statement.{statement}
 use Rattle.scheduler.proofs.thread.Thread.is_fit_paused.Tie as tie
 
-is-paused-requires : tie.Need-is-paused-requires
-is-paused-requires c κs = search needs
-
-is-limited-requires : tie.Need-is-limited-requires
-is-limited-requires c κs = search needs
-
 returns : tie.Need-returns
 returns c = rw (c .before .before .before .is-paused .ensures, c .before .before .is-limited .ensures, paused-fit (c .before .before .before .before .before .before .args .self))
 
 pub is-fit-paused-spec : {M : Type 1} → statement M
-is-fit-paused-spec = tie.close (tie.spec is-paused-requires is-limited-requires returns)
+is-fit-paused-spec = tie.close (tie.spec (search needs) (search needs) returns)

@@ -3,14 +3,8 @@ use Rattle.scheduler.proofs.Laws.Placing.{ready-fit}
 use Rattle.scheduler.proofs.thread.Thread.is_fit_ready.Statement.{statement}
 use Rattle.scheduler.proofs.thread.Thread.is_fit_ready.Tie as tie
 
-is-ready-requires : tie.Need-is-ready-requires
-is-ready-requires c κs = search needs
-
-is-limited-requires : tie.Need-is-limited-requires
-is-limited-requires c κs = search needs
-
 returns : tie.Need-returns
 returns c = rw (c .before .before .before .before .before .is-ready .ensures, c .before .before .before .before .is-limited .ensures, ready-fit (c .before .before .before .before .before .before .before .before .args .self))
 
 pub is-fit-ready-spec : {M : Type 1} → statement M
-is-fit-ready-spec = tie.close (tie.spec is-ready-requires is-limited-requires returns)
+is-fit-ready-spec = tie.close (tie.spec (search needs) (search needs) returns)

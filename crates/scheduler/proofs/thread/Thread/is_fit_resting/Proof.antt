@@ -4,12 +4,9 @@ use Rattle.scheduler.proofs.Laws.Placing.{rests-fit}
 use Rattle.scheduler.proofs.thread.Thread.is_fit_resting.Statement.{statement}
 use Rattle.scheduler.proofs.thread.Thread.is_fit_resting.Tie as tie
 
-is-limited-requires : tie.Need-is-limited-requires
-is-limited-requires c κs = search needs
-
 returns : tie.Need-returns
 unfolding restsb
 returns c = rw (c .before .before .before .before .is-limited .ensures) (rests-fit (c .before .before .before .before .before .before .before .before .args .self))
 
 pub is-fit-resting-spec : {M : Type 1} → statement M
-is-fit-resting-spec = tie.close (tie.spec is-limited-requires returns)
+is-fit-resting-spec = tie.close (tie.spec (search needs) returns)

@@ -12,9 +12,6 @@ use borrow.Author.Needs.{needs}
 use Rattle.scheduler.proofs.thread.Thread.is_placed.Statement.{statement}
 use Rattle.scheduler.proofs.thread.Thread.is_placed.Tie as tie
 
-is-fit-ready-requires : tie.Need-is-fit-ready-requires
-is-fit-ready-requires c κs = search needs
-
 returns : tie.Need-returns
 unfolding oneIf
 returns c =
@@ -22,9 +19,6 @@ returns c =
     let made = c .before .before .before .if1 .taken in
     let r = ready-in (a .self) made (c .before .if2 .taken) in
     ap (λ (b : Bool). eqb (a .n) 1 && b) (c .is-fit-ready .ensures ∙ ap (λ (b : Bool). b && fitb (a .self) && leb (a .limit) (a .self .priority)) r) ∙ placed-ready (a .n) (a .limit) (a .self) r
-
-is-fit-resting-requires : tie.Need-is-fit-resting-requires
-is-fit-resting-requires c κs = search needs
 
 returns-2 : tie.Need-returns-2
 unfolding oneIf
@@ -35,9 +29,6 @@ returns-2 c =
     ap (λ (b : Bool). eqb (a .n) 0 && b) (c .is-fit-resting .ensures ∙ ap (λ (b : Bool). b && fitb (a .self)) (rests-in (a .self) (c .before .before .before .before .before .if1 .taken) l h))
     ∙ placed-other (a .n) (a .limit) (a .self) false (rest-stands (a .self) l (omega arith)) (not-ready (a .self) l)
 
-is-fit-paused-requires : tie.Need-is-fit-paused-requires
-is-fit-paused-requires c κs = search needs
-
 returns-3 : tie.Need-returns-3
 unfolding oneIf
 returns-3 c =
@@ -46,9 +37,6 @@ returns-3 c =
     let h : 4 ≤ a .self .state = omega arith in
     ap (λ (b : Bool). eqb (a .n) 0 && b) (c .is-fit-paused .ensures ∙ ap (λ (b : Bool). b && fitb (a .self)) (paused-in (a .self) (c .before .before .before .before .before .before .before .if1 .taken) h))
     ∙ placed-other (a .n) (a .limit) (a .self) false (rest-stands (a .self) l (omega arith)) (not-ready (a .self) l)
-
-is-fit-paused-requires-2 : tie.Need-is-fit-paused-requires-2
-is-fit-paused-requires-2 c κs = search needs
 
 returns-4 : tie.Need-returns-4
 unfolding oneIf
@@ -61,9 +49,6 @@ returns-4 c =
     ap (λ (b : Bool). eqb (a .n) 1 && b) (c .is-fit-paused2 .ensures ∙ ap (λ (b : Bool). b && fitb (a .self)) (paused-in (a .self) made w))
     ∙ placed-other (a .n) (a .limit) (a .self) true (wait-stands (a .self) made h) (not-ready (a .self) l)
 
-is-zero-requires : tie.Need-is-zero-requires
-is-zero-requires c κs = search needs
-
 returns-5 : tie.Need-returns-5
 unfolding oneIf
 returns-5 c =
@@ -75,14 +60,4 @@ returns-5 c =
 pub is-placed-spec : {M : Type 1} → statement M
 is-placed-spec =
     tie.close
-    (tie.spec
-    is-fit-ready-requires
-    returns
-    is-fit-resting-requires
-    returns-2
-    is-fit-paused-requires
-    returns-3
-    is-fit-paused-requires-2
-    returns-4
-    is-zero-requires
-    returns-5)
+    (tie.spec (search needs) returns (search needs) returns-2 (search needs) returns-3 (search needs) returns-4 (search needs) returns-5)

@@ -4,12 +4,6 @@ use Rattle.scheduler.specs.Choice.{wantedb}
 use Rattle.scheduler.proofs.thread.Thread.is_wanted.Statement.{statement}
 use Rattle.scheduler.proofs.thread.Thread.is_wanted.Tie as tie
 
-is-ready-requires : tie.Need-is-ready-requires
-is-ready-requires c κs = search needs
-
-is-ready-requires-2 : tie.Need-is-ready-requires-2
-is-ready-requires-2 c κs = search needs
-
 returns : tie.Need-returns
 unfolding wantedb markedb
 returns c = rw (c .before .before .if1 .taken, c .before .is-ready .ensures)
@@ -19,4 +13,4 @@ unfolding wantedb
 returns-2 c = rw (c .before .if1 .left, c .is-ready2 .ensures)
 
 pub is-wanted-spec : {M : Type 1} → statement M
-is-wanted-spec = tie.close (tie.spec is-ready-requires is-ready-requires-2 returns returns-2)
+is-wanted-spec = tie.close (tie.spec (search needs) (search needs) returns returns-2)
