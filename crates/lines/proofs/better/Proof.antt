@@ -3,13 +3,6 @@ use Rattle.lines.specs.Lines.{betterOf}
 use Rattle.lines.proofs.better.Statement.{statement}
 use Rattle.lines.proofs.better.Tie as tie
 
-returns : tie.Need-returns
-unfolding betterOf
-returns c = rw (lt-ltb _ _ (c .if1 .taken))
-
-returns-2 : tie.Need-returns-2
-unfolding betterOf
-returns-2 c = rw (le-ltb _ _ (c .if1 .left))
-
 pub better-spec : {M : Type 1} → statement M
-better-spec = tie.close (tie.spec returns returns-2)
+unfolding betterOf
+better-spec = tie.close (tie.spec (λ c. rw (lt-ltb _ _ (c .if1 .taken))) (λ c. rw (le-ltb _ _ (c .if1 .left))))

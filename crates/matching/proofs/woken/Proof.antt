@@ -32,9 +32,6 @@ loop-holds c =
     let w = length-members (a .line) e in
     (omega arith, omega (arith, c .size .ensures, w), e, refl, omega arith, refl, refl)
 
-cast-k : tie.Need-cast-k Inv-loop μ-loop
-cast-k c = omega (arith, c .before .before .before .before .before .loop .inv .4)
-
 loop-again : tie.Need-loop-again Inv-loop μ-loop
 unfolding metAtb
 loop-again c =
@@ -111,5 +108,5 @@ pub woken-spec : {M : Type 1} → statement M
 woken-spec =
     tie.close
     (tie.spec Inv-loop μ-loop (search needs) (search needs) loop-holds (search needs) (λ c. search needs) (search needs) (search needs) (search needs)
-    (search needs) (search needs) (search needs) (search needs) (search needs) (search needs) cast-k (search needs) (search needs) (search needs)
-    loop-again (search needs) loop-again-2 (search needs) loop-again-3 (search needs) loop-again-4 returns)
+    (search needs) (search needs) (search needs) (search needs) (search needs) (search needs) (search needs) (search needs) (search needs)
+    (search needs) loop-again (search needs) loop-again-2 (search needs) loop-again-3 (search needs) loop-again-4 returns)

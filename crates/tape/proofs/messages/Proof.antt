@@ -7,7 +7,7 @@ use lib.Seq.{take-all}
 use Rattle.lines.specs.Lines.{pad}
 use Rattle.lines.proofs.Laws.Lines.{pad-none, pad-on}
 use Rattle.tape.specs.Tapes.{wordAt, recordsEnd, tapeEnd, countOf, messageAt, messagesOf}
-use Rattle.tape.proofs.Laws.Tapes.{count-most, messages-most, length-messages, message-in}
+use Rattle.tape.proofs.Laws.Tapes.{messages-most, length-messages, message-in}
 use Rattle.tape.proofs.messages.Statement.{statement}
 use Rattle.tape.proofs.messages.Tie as tie
 
@@ -22,10 +22,6 @@ loop-holds c =
     let most = messages-most (c .before .before .before .before .args .bytes .now) in
     let g = c .before .message-count .ensures in
     (omega arith, omega (arith, g, most), pad-none 4000)
-
-add-word : tie.Need-add-word Inv-loop μ-loop
-unfolding recordsEnd
-add-word c = let most = count-most (c .before .before .before .before .before .before .args .bytes .now) in omega (arith, c .before .before .records-end .ensures, c .before .before .before .before .count .ensures, most)
 
 loop-again : tie.Need-loop-again Inv-loop μ-loop
 unfolding messageAt tapeEnd recordsEnd
@@ -47,7 +43,8 @@ returns c =
     l .inv .2 ∙ ap (pad 4000) (take-all (l .i) s (omega (arith, k, c .before .before .before .message-count .ensures)))
 
 pub messages-spec : {M : Type 1} → statement M
+unfolding recordsEnd
 messages-spec =
     tie.close
-    (tie.spec Inv-loop μ-loop (search needs) (search needs) (search needs) (search needs) loop-holds (search needs) add-word (search needs)
+    (tie.spec Inv-loop μ-loop (search needs) (search needs) (search needs) (search needs) loop-holds (search needs) (search needs) (search needs)
     (search needs) (search needs) (search needs) (search needs) loop-again returns)

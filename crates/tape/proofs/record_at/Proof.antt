@@ -1,29 +1,8 @@
-use native.Mathlib.Omega.{arith}
 use borrow.Author.Needs.{needs}
 use borrow.Author.Tests.{lt-ltb, le-ltb}
 use Rattle.tape.specs.Tapes.{recordsEnd, noRecord, recordFrom, recordAt}
 use Rattle.tape.proofs.record_at.Statement.{statement}
 use Rattle.tape.proofs.record_at.Tie as tie
-
-add-word : tie.Need-add-word
-unfolding recordsEnd
-add-word c = omega (arith, c .before .records-end .ensures)
-
-add-word-2 : tie.Need-add-word-2
-unfolding recordsEnd
-add-word-2 c = omega (arith, c .before .before .records-end .ensures)
-
-add-word-3 : tie.Need-add-word-3
-unfolding recordsEnd
-add-word-3 c = omega (arith, c .before .before .before .records-end .ensures)
-
-add-word-4 : tie.Need-add-word-4
-unfolding recordsEnd
-add-word-4 c = omega (arith, c .before .before .before .before .records-end .ensures)
-
-add-word-5 : tie.Need-add-word-5
-unfolding recordsEnd
-add-word-5 c = omega (arith, c .before .before .before .before .before .records-end .ensures)
 
 returns : tie.Need-returns
 unfolding recordAt recordFrom
@@ -34,7 +13,8 @@ unfolding recordAt noRecord
 returns-2 c = rw (le-ltb (c .before .before .args .i) 2048 (c .if1 .left))
 
 pub record-at-spec : {M : Type 1} → statement M
+unfolding recordsEnd
 record-at-spec =
     tie.close
-    (tie.spec (search needs) (search needs) (search needs) add-word (search needs) add-word-2 (search needs) add-word-3 (search needs) add-word-4
-    (search needs) add-word-5 (search needs) returns returns-2)
+    (tie.spec (search needs) (search needs) (search needs) (search needs) (search needs) (search needs) (search needs) (search needs) (search needs)
+    (search needs) (search needs) (search needs) (search needs) returns returns-2)

@@ -4,9 +4,6 @@ use Rattle.tape.specs.Tapes.{recordsEnd}
 use Rattle.tape.proofs.records_end.Statement.{statement}
 use Rattle.tape.proofs.records_end.Tie as tie
 
-returns : tie.Need-returns
-unfolding recordsEnd
-returns c = refl
-
 pub records-end-spec : {M : Type 1} → statement M
-records-end-spec = tie.close (tie.spec (search needs) (search needs) returns)
+unfolding recordsEnd
+records-end-spec = tie.close (tie.spec (search needs) (search needs) (λ c. refl))

@@ -5,15 +5,12 @@ use Rattle.tape.proofs.Laws.Tapes.{word-past}
 use Rattle.tape.proofs.word.Statement.{statement}
 use Rattle.tape.proofs.word.Tie as tie
 
-returns : tie.Need-returns
-unfolding wordAt
-returns c = rw (c .before .before .before .byte .ensures, c .before .before .byte2 .ensures, c .before .byte3 .ensures, c .byte4 .ensures)
-
 returns-2 : tie.Need-returns-2
 returns-2 c = sym (word-past (c .before .before .args .bytes .now) (c .before .before .args .at) (c .if1 .left))
 
 pub word-spec : {M : Type 1} → statement M
+unfolding wordAt
 word-spec =
     tie.close
     (tie.spec (search needs) (search needs) (search needs) (search needs) (search needs) (search needs) (search needs) (search needs) (search needs)
-    (search needs) (search needs) (search needs) (search needs) (search needs) (search needs) (search needs) (search needs) returns returns-2)
+    (search needs) (search needs) (search needs) (search needs) (search needs) (search needs) (search needs) (search needs) (search needs) returns-2)

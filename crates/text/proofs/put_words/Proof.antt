@@ -1,6 +1,5 @@
-use mathlib.Core.Path.{_≡_, _∙_}
+use mathlib.Core.Path.{_≡_}
 use Prim.Native.Nat.{_≤_, _-_}
-use native.Mathlib.Omega.{arith}
 use borrow.Author.Needs.{needs}
 use lib.ListN.{length}
 use Rattle.text.proofs.put_words.Statement.{statement}
@@ -12,11 +11,8 @@ Inv-loop buf₀ at words separator to₀ i₀ buf to i = (i ≤ 16) × (length b
 abbrev μ-loop : tie.MeasureT-loop
 μ-loop buf₀ at words separator to₀ i₀ buf to i = 16 - i
 
-loop-again : tie.Need-loop-again Inv-loop μ-loop
-loop-again c = (omega arith, c .before .before .put-decimal .kept .0 ∙ c .before .before .before .before .before .before .before .before .put-separator .kept .0 ∙ c .before .before .before .before .before .before .before .before .before .before .before .loop .inv .1)
-
 pub put-words-spec : {M : Type 1} → statement M
 put-words-spec =
     tie.close
     (tie.spec Inv-loop μ-loop (search needs) (search needs) (search needs) (search needs) (search needs) (search needs) (search needs) (search needs)
-    loop-again (search needs) (search needs))
+    (search needs) (search needs) (search needs))

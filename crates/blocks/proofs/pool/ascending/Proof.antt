@@ -16,9 +16,6 @@ Inv-loop list₀ i₀ list i = (i ≤ 64) × (list ≡ pad 64 (take i (numbersFr
 abbrev μ-loop : tie.MeasureT-loop
 μ-loop list₀ i₀ list i = 64 - i
 
-loop-holds : tie.Need-loop-holds Inv-loop μ-loop
-loop-holds c = (omega arith, pad-none 64)
-
 loop-again : tie.Need-loop-again Inv-loop μ-loop
 loop-again c =
     let l = c .before .loop in
@@ -34,4 +31,6 @@ returns c =
     l .inv .1 ∙ ap (λ (k : ℕ). pad 64 (take k (numbersFrom 0 64))) e ∙ refl
 
 pub ascending-spec : {M : Type 1} → statement M
-ascending-spec = tie.close (tie.spec Inv-loop μ-loop loop-holds (search needs) (search needs) (search needs) (search needs) loop-again returns)
+ascending-spec =
+    tie.close
+    (tie.spec Inv-loop μ-loop (λ c. (omega arith, pad-none 64)) (search needs) (search needs) (search needs) (search needs) loop-again returns)

@@ -15,9 +15,6 @@ Inv-loop front back list₀ i₀ list i = (i ≤ 64) × (list ≡ pad 64 (take i
 abbrev μ-loop : tie.MeasureT-loop
 μ-loop front back list₀ i₀ list i = 64 - i
 
-loop-holds : tie.Need-loop-holds Inv-loop μ-loop
-loop-holds c = (omega arith, pad-none 64)
-
 loop-again : tie.Need-loop-again Inv-loop μ-loop
 loop-again c =
     let l = c .before .before .loop in
@@ -32,4 +29,6 @@ returns c =
     l .inv .1 ∙ ap (λ (k : ℕ). pad 64 (take k (a .front .now ++ a .back .now))) e ∙ pad-take 64 (a .front .now ++ a .back .now)
 
 pub packed-spec : {M : Type 1} → statement M
-packed-spec = tie.close (tie.spec Inv-loop μ-loop loop-holds (search needs) (search needs) (search needs) (search needs) loop-again returns)
+packed-spec =
+    tie.close
+    (tie.spec Inv-loop μ-loop (λ c. (omega arith, pad-none 64)) (search needs) (search needs) (search needs) (search needs) loop-again returns)

@@ -6,13 +6,8 @@ use Rattle.blocks.specs.Pools.{blockSizesb}
 use Rattle.blocks.proofs.pool.sizes_fit.Statement.{statement}
 use Rattle.blocks.proofs.pool.sizes_fit.Tie as tie
 
-returns : tie.Need-returns
-unfolding blockSizesb
-returns c = refl
-
-returns-2 : tie.Need-returns-2
-unfolding blockSizesb
-returns-2 c = rw (lt-leb (c .before .args .block) 256 (c .if1 .left), and-false)
-
 pub sizes-fit-spec : {M : Type 1} → statement M
-sizes-fit-spec = tie.close (tie.spec (search needs) (search needs) returns returns-2)
+unfolding blockSizesb
+sizes-fit-spec =
+    tie.close
+    (tie.spec (search needs) (search needs) (λ c. refl) (λ c. rw (lt-leb (c .before .args .block) 256 (c .if1 .left), and-false)))

@@ -17,9 +17,6 @@ Inv-loop area index words start n message₀ i₀ message i = (i ≤ 16) × (mes
 abbrev μ-loop : tie.MeasureT-loop
 μ-loop area index words start n message₀ i₀ message i = 16 - i
 
-loop-holds : tie.Need-loop-holds Inv-loop μ-loop
-loop-holds c = (omega arith, pad-none 16)
-
 shared-slice-read-message : tie.Need-shared-slice-read-message Inv-loop μ-loop
 shared-slice-read-message c =
     let a = c .before .before .before .before .args in
@@ -47,5 +44,5 @@ returns c =
 pub message-in-spec : {M : Type 1} → statement M
 message-in-spec =
     tie.close
-    (tie.spec Inv-loop μ-loop loop-holds (search needs) (search needs) (search needs) shared-slice-read-message (search needs) (search needs)
-    (search needs) (search needs) loop-again returns)
+    (tie.spec Inv-loop μ-loop (λ c. (omega arith, pad-none 16)) (search needs) (search needs) (search needs) shared-slice-read-message (search needs)
+    (search needs) (search needs) (search needs) loop-again returns)

@@ -2,13 +2,6 @@ use Rattle.calls.specs.Refusals.{unless}
 use Rattle.calls.proofs.refusal.unless.Statement.{statement}
 use Rattle.calls.proofs.refusal.unless.Tie as tie
 
-returns : tie.Need-returns
-unfolding unless
-returns c = rw (c .if1 .taken)
-
-returns-2 : tie.Need-returns-2
-unfolding unless
-returns-2 c = rw (c .if1 .left)
-
 pub unless-spec : {M : Type 1} → statement M
-unless-spec = tie.close (tie.spec returns returns-2)
+unfolding unless
+unless-spec = tie.close (tie.spec (λ c. cc) (λ c. cc))

@@ -9,12 +9,6 @@ use Rattle.lines.specs.Lines.{members}
 use Rattle.lines.proofs.Line.first.Statement.{statement}
 use Rattle.lines.proofs.Line.first.Tie as tie
 
-returns : tie.Need-returns
-unfolding first members
-returns c =
-    let e : c .before .args .t1 .len ≡ 0 = c .if1 .taken in
-    rw e
-
 returns-2 : tie.Need-returns-2
 unfolding first members
 returns-2 c =
@@ -27,4 +21,5 @@ returns-2 c =
     go (suc n) (x ∷ xs) m h = refl
 
 pub first-spec : {M : Type 1} → statement M
-first-spec = tie.close (tie.spec (search needs) returns returns-2)
+unfolding first members
+first-spec = tie.close (tie.spec (search needs) (λ c. search needs) returns-2)

@@ -37,9 +37,6 @@ loop-holds c =
     go true t = refl
     go false t = refl
 
-cast-k : tie.Need-cast-k Inv-loop μ-loop
-cast-k c = omega (arith, c .before .before .before .loop .inv .4)
-
 loop-again : tie.Need-loop-again Inv-loop μ-loop
 loop-again c =
     let l = c .before .before .before .before .loop in
@@ -83,4 +80,4 @@ pub gathered-spec : {M : Type 1} → statement M
 gathered-spec =
     tie.close
     (tie.spec Inv-loop μ-loop (search needs) (search needs) (search needs) (search needs) (search needs) loop-holds (search needs) (search needs)
-    cast-k (search needs) (search needs) (search needs) loop-again (search needs) loop-again-2 (search needs) loop-again-3 returns)
+    (search needs) (search needs) (search needs) (search needs) loop-again (search needs) loop-again-2 (search needs) loop-again-3 returns)

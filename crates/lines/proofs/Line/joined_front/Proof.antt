@@ -3,9 +3,6 @@ use Rattle.lines.specs.Lists.{toFront}
 use Rattle.lines.proofs.Line.joined_front.Statement.{statement}
 use Rattle.lines.proofs.Line.joined_front.Tie as tie
 
-returns : tie.Need-returns
-unfolding toFront
-returns c = c .gathered .ensures
-
 pub joined-front-spec : {M : Type 1} → statement M
-joined-front-spec = tie.close (tie.spec (search needs) returns)
+unfolding toFront
+joined-front-spec = tie.close (tie.spec (search needs) (λ c. search needs))

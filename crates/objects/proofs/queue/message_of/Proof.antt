@@ -14,9 +14,6 @@ Inv-loop words message₀ i₀ message i = (i ≤ 16) × (message ≡ pad 16 (ta
 abbrev μ-loop : tie.MeasureT-loop
 μ-loop words message₀ i₀ message i = 16 - i
 
-loop-holds : tie.Need-loop-holds Inv-loop μ-loop
-loop-holds c = (omega arith, pad-none 16)
-
 loop-again : tie.Need-loop-again Inv-loop μ-loop
 loop-again c =
     let l = c .before .before .loop in
@@ -33,4 +30,5 @@ returns c =
 pub message-of-spec : {M : Type 1} → statement M
 message-of-spec =
     tie.close
-    (tie.spec Inv-loop μ-loop loop-holds (search needs) (search needs) (search needs) (search needs) (search needs) loop-again returns)
+    (tie.spec Inv-loop μ-loop (λ c. (omega arith, pad-none 16)) (search needs) (search needs) (search needs) (search needs) (search needs) loop-again
+    returns)

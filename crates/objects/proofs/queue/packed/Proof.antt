@@ -15,9 +15,6 @@ Inv-loop front back store₀ i₀ store i = (i ≤ 64) × (store ≡ pad 64 (tak
 abbrev μ-loop : tie.MeasureT-loop
 μ-loop front back store₀ i₀ store i = 64 - i
 
-loop-holds : tie.Need-loop-holds Inv-loop μ-loop
-loop-holds c = (omega arith, pad-none 64)
-
 loop-again : tie.Need-loop-again Inv-loop μ-loop
 loop-again c =
     let l = c .before .before .loop in
@@ -34,4 +31,5 @@ returns c =
 pub packed-spec : {M : Type 1} → statement M
 packed-spec =
     tie.close
-    (tie.spec Inv-loop μ-loop loop-holds (search needs) (search needs) (search needs) (search needs) (search needs) loop-again returns)
+    (tie.spec Inv-loop μ-loop (λ c. (omega arith, pad-none 64)) (search needs) (search needs) (search needs) (search needs) (search needs) loop-again
+    returns)

@@ -4,9 +4,6 @@ use Rattle.scheduler.specs.Choice.{bestReady, wantedb}
 use Rattle.scheduler.proofs.Scheduler.best_ready.Statement.{statement}
 use Rattle.scheduler.proofs.Scheduler.best_ready.Tie as tie
 
-returns : tie.Need-returns
-unfolding bestReady readyb wantedb
-returns c = c .best .ensures
-
 pub best-ready-spec : {M : Type 1} → statement M
-best-ready-spec = tie.close (tie.spec (search needs) returns)
+unfolding bestReady readyb wantedb
+best-ready-spec = tie.close (tie.spec (search needs) (search needs))

@@ -1,4 +1,4 @@
-use mathlib.Core.Path.{_≡_, refl, sym, ap, _∙_}
+use mathlib.Core.Path.{_≡_, sym, ap, _∙_}
 use Prim.Native.Nat.{_≤_, _-_}
 use native.Mathlib.Omega.{arith}
 use borrow.Author.Needs.{needs}
@@ -16,9 +16,6 @@ Inv-loop p self keys₀ t₀ keys t = (t ≤ 32) × (length keys ≡ 32) × (tak
 
 abbrev μ-loop : tie.MeasureT-loop
 μ-loop p self keys₀ t₀ keys t = 32 - t
-
-loop-holds : tie.Need-loop-holds Inv-loop μ-loop
-loop-holds c = (omega arith, refl, refl)
 
 loop-again : tie.Need-loop-again Inv-loop μ-loop
 loop-again c =
@@ -39,4 +36,5 @@ returns c =
 pub keys-at-spec : {M : Type 1} → statement M
 keys-at-spec =
     tie.close
-    (tie.spec Inv-loop μ-loop loop-holds (search needs) (search needs) (search needs) (search needs) (search needs) (search needs) loop-again returns)
+    (tie.spec Inv-loop μ-loop (search needs) (search needs) (search needs) (search needs) (search needs) (search needs) (search needs) loop-again
+    returns)

@@ -16,9 +16,6 @@ returns c =
     let h : length (a .self .threads) ≤ a .t .0 = omega arith in
     sym (thread-out (a .self) (a .t .0) (a .th) h)
 
-returns-2 : tie.Need-returns-2
-unfolding withThread
-returns-2 c = refl
-
 pub with-thread-spec : {M : Type 1} → statement M
-with-thread-spec = tie.close (tie.spec (search needs) returns (search needs) (search needs) returns-2)
+unfolding withThread
+with-thread-spec = tie.close (tie.spec (search needs) returns (search needs) (search needs) (λ c. refl))

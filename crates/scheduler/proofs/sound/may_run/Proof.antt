@@ -6,8 +6,5 @@ use Rattle.scheduler.proofs.sound.may_run.Tie as tie
 returns : tie.Need-returns
 returns c = rw (lt-ltb (c .before .before .before .args .r) 32 (c .before .before .if1 .taken), c .before .is-ready .ensures)
 
-returns-2 : tie.Need-returns-2
-returns-2 c = rw (le-ltb (c .before .args .r) 32 (c .if1 .left))
-
 pub may-run-spec : {M : Type 1} → statement M
-may-run-spec = tie.close (tie.spec (search needs) returns returns-2)
+may-run-spec = tie.close (tie.spec (search needs) returns (λ c. rw (le-ltb (c .before .args .r) 32 (c .if1 .left))))

@@ -1,4 +1,4 @@
-use mathlib.Core.Path.{_≡_, refl, _∙_}
+use mathlib.Core.Path.{_≡_}
 use Prim.Native.Nat.{_≤_, _-_}
 use native.Mathlib.Omega.{arith}
 use borrow.Author.Needs.{needs}
@@ -18,19 +18,8 @@ mul-least c =
     let l = product-small (c .before .before .before .before .args .q .words) (c .before .before .before .before .args .q .stored) (search needs) (search needs) in
     record { fits = omega (arith, l) }
 
-loop-holds : tie.Need-loop-holds Inv-loop μ-loop
-loop-holds c =
-    let e : length (c .before .before .before .before .before .args .q .store) ≡ 64 = search needs in
-    (omega arith, c .least .ensures, e, refl)
-
-loop-again : tie.Need-loop-again Inv-loop μ-loop
-loop-again c = (omega arith, c .before .before .before .before .before .before .before .before .before .before .before .loop .inv .1, c .before .before .before .before .before .before .before .before .before .before .before .loop .inv .2, c .before .before .put-decimal .kept .0 ∙ c .before .before .before .before .before .before .before .put-separator .kept .0 ∙ c .before .before .before .before .before .before .before .before .before .before .before .loop .inv .3)
-
-same-length : tie.Need-same-length Inv-loop μ-loop
-same-length c = c .before .loop .inv .3
-
 pub put-stored-spec : {M : Type 1} → statement M
 put-stored-spec =
     tie.close
-    (tie.spec Inv-loop μ-loop (search needs) (search needs) mul-least (search needs) loop-holds (search needs) (search needs) (search needs)
-    (search needs) (search needs) (search needs) (search needs) (search needs) loop-again same-length (search needs))
+    (tie.spec Inv-loop μ-loop (search needs) (search needs) mul-least (search needs) (λ c. search needs) (search needs) (search needs) (search needs)
+    (search needs) (search needs) (search needs) (search needs) (search needs) (search needs) (search needs) (search needs))

@@ -3,9 +3,6 @@ use Rattle.waiting.specs.Fit.{groupWaitb}
 use Rattle.waiting.proofs.fit.group_waits.Statement.{statement}
 use Rattle.waiting.proofs.fit.group_waits.Tie as tie
 
-returns : tie.Need-returns
-unfolding groupWaitb
-returns c = rw (c .before .is-met .ensures)
-
 pub group-waits-spec : {M : Type 1} → statement M
-group-waits-spec = tie.close (tie.spec (search needs) returns)
+unfolding groupWaitb
+group-waits-spec = tie.close (tie.spec (search needs) (λ c. cc))

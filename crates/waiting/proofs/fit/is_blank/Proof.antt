@@ -1,4 +1,4 @@
-use mathlib.Core.Path.{_≡_, refl, ap, _∙_}
+use mathlib.Core.Path.{_≡_, ap, _∙_}
 use mathlib.Core.Bool.{Bool, _&&_, _||_}
 use Prim.Native.Nat.{ℕ, _≤_, _-_}
 use native.Mathlib.Omega.{arith}
@@ -17,12 +17,6 @@ Inv-loop from words n blank₀ i₀ blank i = (i ≤ 16) × (length words ≡ 16
 abbrev μ-loop : tie.MeasureT-loop
 μ-loop from words n blank₀ i₀ blank i = 16 - i
 
-loop-holds : tie.Need-loop-holds Inv-loop μ-loop
-unfolding allBelow
-loop-holds c =
-    let e : length (c .args .t1) ≡ 16 = search needs in
-    (omega arith, e, refl)
-
 loop-again : tie.Need-loop-again Inv-loop μ-loop
 loop-again c =
     let l = c .before .loop in
@@ -38,4 +32,5 @@ returns c =
     rw (l .inv .2, e)
 
 pub is-blank-spec : {M : Type 1} → statement M
-is-blank-spec = tie.close (tie.spec Inv-loop μ-loop loop-holds (search needs) (search needs) (search needs) (search needs) loop-again returns)
+unfolding allBelow
+is-blank-spec = tie.close (tie.spec Inv-loop μ-loop (λ c. search needs) (search needs) (search needs) (search needs) (search needs) loop-again returns)

@@ -3,9 +3,6 @@ use Rattle.waiting.specs.Fit.{poolWaitb}
 use Rattle.waiting.proofs.fit.pool_waits.Statement.{statement}
 use Rattle.waiting.proofs.fit.pool_waits.Tie as tie
 
-returns : tie.Need-returns
-unfolding poolWaitb
-returns c = refl
-
 pub pool-waits-spec : {M : Type 1} → statement M
-pool-waits-spec = tie.close (tie.spec returns)
+unfolding poolWaitb
+pool-waits-spec = tie.close (tie.spec (λ c. refl))

@@ -3,9 +3,6 @@ use Rattle.waiting.specs.Ticks.{lastTickb}
 use Rattle.waiting.proofs.ticks.is_last_tick.Statement.{statement}
 use Rattle.waiting.proofs.ticks.is_last_tick.Tie as tie
 
-returns : tie.Need-returns
-unfolding lastTickb
-returns c = rw (c .before .is-timed .ensures)
-
 pub is-last-tick-spec : {M : Type 1} → statement M
-is-last-tick-spec = tie.close (tie.spec (search needs) returns)
+unfolding lastTickb
+is-last-tick-spec = tie.close (tie.spec (search needs) (λ c. cc))

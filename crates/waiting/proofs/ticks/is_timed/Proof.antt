@@ -3,9 +3,6 @@ use Rattle.waiting.specs.Ticks.{timedb}
 use Rattle.waiting.proofs.ticks.is_timed.Statement.{statement}
 use Rattle.waiting.proofs.ticks.is_timed.Tie as tie
 
-returns : tie.Need-returns
-unfolding timedb
-returns c = rw (c .before .is-paused .ensures)
-
 pub is-timed-spec : {M : Type 1} → statement M
-is-timed-spec = tie.close (tie.spec (search needs) returns)
+unfolding timedb
+is-timed-spec = tie.close (tie.spec (search needs) (λ c. cc))

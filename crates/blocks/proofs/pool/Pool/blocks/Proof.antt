@@ -4,9 +4,6 @@ use Rattle.blocks.specs.Pools.{blocksOf}
 use Rattle.blocks.proofs.pool.Pool.blocks.Statement.{statement}
 use Rattle.blocks.proofs.pool.Pool.blocks.Tie as tie
 
-returns : tie.Need-returns
-unfolding blocksOf
-returns c = refl
-
 pub blocks-spec : {M : Type 1} → statement M
-blocks-spec = tie.close (tie.spec (search needs) (search needs) (search needs) returns)
+unfolding blocksOf
+blocks-spec = tie.close (tie.spec (search needs) (search needs) (search needs) (λ c. refl))

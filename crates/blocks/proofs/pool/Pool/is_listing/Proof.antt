@@ -11,7 +11,7 @@ use Rattle.lines.specs.Lists.{count, below}
 use Rattle.lines.proofs.Laws.Logic.{and-in}
 use Rattle.lines.proofs.Laws.Slots.{take-again}
 use Rattle.blocks.specs.Pools.{blocksOf, freeBlocks, onceb, listingb}
-use Rattle.blocks.proofs.Laws.Listings.{Tallied, count-small, tallied-more, tallied-past, below-more, once-more, once-past, below-broken, once-broken}
+use Rattle.blocks.proofs.Laws.Listings.{Tallied, tallied-more, tallied-past, below-more, once-more, once-past, below-broken, once-broken}
 use Rattle.blocks.proofs.pool.Pool.is_listing.Statement.{statement}
 use Rattle.blocks.proofs.pool.Pool.is_listing.Tie as tie
 
@@ -56,18 +56,6 @@ returns-2 c =
     let f = once-broken (l .i) (m .result) xs (c .before .before .before .loop-test .taken) h s (λ z. c .if3 .taken (l .inv .4 (getD xs (l .i) 0) s ∙ z)) in
     sym (ap (λ (r : Bool). below (blocksOf a) (take (a .free) xs) && r) (sym (ap onceb t) ∙ f) ∙ and-false (below (blocksOf a) (take (a .free) xs)))
 
-add-counts : tie.Need-add-counts Inv-loop μ-loop
-add-counts c =
-    let a = c .before .before .before .before .before .before .before .before .args .self in
-    let l = c .before .before .before .before .loop in
-    let xs = a .list in
-    let h : l .i < length xs = omega arith in
-    let x = getD xs (l .i) 0 in
-    let t = l .inv .4 x (c .before .if2 .taken) in
-    let s = count-small x (take (l .i) xs) in
-    let m = length-take (l .i) xs in
-    omega (arith, t, s, m)
-
 loop-again : tie.Need-loop-again Inv-loop μ-loop
 loop-again c =
     let a = c .before .before .before .before .before .before .before .before .args .self in
@@ -110,5 +98,6 @@ returns-3 c =
 pub is-listing-spec : {M : Type 1} → statement M
 is-listing-spec =
     tie.close
-    (tie.spec Inv-loop μ-loop (search needs) (search needs) (search needs) loop-holds (search needs) (λ c. search needs) (search needs) (λ c. search needs)
-    returns (search needs) returns-2 (search needs) add-counts (search needs) (search needs) loop-again (search needs) loop-again-2 returns-3)
+    (tie.spec Inv-loop μ-loop (search needs) (search needs) (search needs) loop-holds (search needs) (λ c. search needs) (search needs)
+    (λ c. search needs) returns (search needs) returns-2 (search needs) (search needs) (search needs) (search needs) loop-again (search needs)
+    loop-again-2 returns-3)

@@ -3,9 +3,6 @@ use Rattle.blocks.specs.Views.{viewedb}
 use Rattle.blocks.proofs.pool.Pool.is_viewed.Statement.{statement}
 use Rattle.blocks.proofs.pool.Pool.is_viewed.Tie as tie
 
-returns : tie.Need-returns
-unfolding viewedb
-returns c = rw (viewedb, c .is-used .ensures)
-
 pub is-viewed-spec : {M : Type 1} → statement M
-is-viewed-spec = tie.close (tie.spec (search needs) (search needs) returns)
+unfolding viewedb
+is-viewed-spec = tie.close (tie.spec (search needs) (search needs) (λ c. cc))

@@ -8,10 +8,6 @@ use Rattle.blocks.specs.Pools.{freeBlocks, nextBlock}
 use Rattle.blocks.proofs.pool.Pool.next.Statement.{statement}
 use Rattle.blocks.proofs.pool.Pool.next.Tie as tie
 
-returns : tie.Need-returns
-unfolding nextBlock freeBlocks
-returns c = rw (c .if1 .taken)
-
 returns-2 : tie.Need-returns-2
 unfolding nextBlock freeBlocks
 returns-2 c =
@@ -20,4 +16,5 @@ returns-2 c =
     getD-any (s .list) 0 0 64 (omega (arith, e)) ∙ sym (getD-take (s .free) (s .list) 0 64 (omega (arith, c .before .if1 .left)))
 
 pub next-spec : {M : Type 1} → statement M
-next-spec = tie.close (tie.spec (search needs) returns returns-2)
+unfolding nextBlock freeBlocks
+next-spec = tie.close (tie.spec (search needs) (λ c. search needs) returns-2)

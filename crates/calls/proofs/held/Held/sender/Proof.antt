@@ -3,9 +3,6 @@ use Rattle.calls.specs.Held.{sending}
 use Rattle.calls.proofs.held.Held.sender.Statement.{statement}
 use Rattle.calls.proofs.held.Held.sender.Tie as tie
 
-returns : tie.Need-returns
-unfolding sending
-returns c = refl
-
 pub sender-spec : {M : Type 1} → statement M
-sender-spec = tie.close (tie.spec returns)
+unfolding sending
+sender-spec = tie.close (tie.spec (λ c. refl))

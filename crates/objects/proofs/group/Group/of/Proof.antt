@@ -3,9 +3,6 @@ use Rattle.objects.specs.Groups.{groupWith}
 use Rattle.objects.proofs.group.Group.of.Statement.{statement}
 use Rattle.objects.proofs.group.Group.of.Tie as tie
 
-returns : tie.Need-returns
-unfolding groupWith
-returns c = refl
-
 pub of-spec : {M : Type 1} → statement M
-of-spec = tie.close (tie.spec returns)
+unfolding groupWith
+of-spec = tie.close (tie.spec (λ c. refl))

@@ -4,9 +4,6 @@ use Rattle.lines.specs.Lines.{pad}
 use Rattle.objects.proofs.queue.Queue.flushed.Statement.{statement}
 use Rattle.objects.proofs.queue.Queue.flushed.Tie as tie
 
-returns : tie.Need-returns
-unfolding flushed storing pad
-returns c = c .storing .ensures
-
 pub flushed-spec : {M : Type 1} → statement M
-flushed-spec = tie.close (tie.spec (search needs) returns)
+unfolding flushed storing pad
+flushed-spec = tie.close (tie.spec (search needs) (λ c. search needs))

@@ -1,4 +1,4 @@
-use mathlib.Core.Path.{_≡_, refl}
+use mathlib.Core.Path.{_≡_}
 use mathlib.Core.Bool.{_||_}
 use Prim.Native.Nat.{_≤_, _-_}
 use native.Mathlib.Omega.{arith}
@@ -17,12 +17,6 @@ Inv-loop store any₀ i₀ any i = (i ≤ 64) × (length store ≡ 64) × (eqb a
 abbrev μ-loop : tie.MeasureT-loop
 μ-loop store any₀ i₀ any i = 64 - i
 
-loop-holds : tie.Need-loop-holds Inv-loop μ-loop
-unfolding allBelow
-loop-holds c =
-    let e : length (c .before .args .self .store) ≡ 64 = search needs in
-    (omega arith, e, refl)
-
 loop-again : tie.Need-loop-again Inv-loop μ-loop
 loop-again c =
     let l = c .before .loop in
@@ -37,4 +31,5 @@ returns c =
     rw (l .inv .2, e)
 
 pub is-blank-spec : {M : Type 1} → statement M
-is-blank-spec = tie.close (tie.spec Inv-loop μ-loop loop-holds (search needs) (search needs) (search needs) (search needs) loop-again returns)
+unfolding allBelow
+is-blank-spec = tie.close (tie.spec Inv-loop μ-loop (λ c. search needs) (search needs) (search needs) (search needs) (search needs) loop-again returns)

@@ -3,9 +3,6 @@ use Rattle.objects.specs.Queues.{noQueue}
 use Rattle.objects.proofs.queue.Queue.none.Statement.{statement}
 use Rattle.objects.proofs.queue.Queue.none.Tie as tie
 
-returns : tie.Need-returns
-unfolding noQueue
-returns c = refl
-
 pub none-spec : {M : Type 1} → statement M
-none-spec = tie.close (tie.spec returns)
+unfolding noQueue
+none-spec = tie.close (tie.spec (λ c. refl))

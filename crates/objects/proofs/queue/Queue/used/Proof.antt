@@ -11,13 +11,6 @@ mul-words c =
     let l = product-small (s .stored) (s .words) (search needs) (search needs) in
     record { fits = omega (arith, l) }
 
-returns : tie.Need-returns
-unfolding usedWords
-returns c = omega (arith, c .if1 .taken)
-
-returns-2 : tie.Need-returns-2
-unfolding usedWords
-returns-2 c = omega (arith, c .if1 .left)
-
 pub used-spec : {M : Type 1} → statement M
-used-spec = tie.close (tie.spec (search needs) (search needs) mul-words returns returns-2)
+unfolding usedWords
+used-spec = tie.close (tie.spec (search needs) (search needs) mul-words (search needs) (search needs))

@@ -3,9 +3,6 @@ use Rattle.objects.specs.Semaphores.{noSemaphore}
 use Rattle.objects.proofs.semaphore.Semaphore.none.Statement.{statement}
 use Rattle.objects.proofs.semaphore.Semaphore.none.Tie as tie
 
-returns : tie.Need-returns
-unfolding noSemaphore
-returns c = refl
-
 pub none-spec : {M : Type 1} → statement M
-none-spec = tie.close (tie.spec returns)
+unfolding noSemaphore
+none-spec = tie.close (tie.spec (λ c. refl))

@@ -3,9 +3,6 @@ use Rattle.scheduler.specs.Threads.{inState}
 use Rattle.scheduler.proofs.thread.Thread.in_state.Statement.{statement}
 use Rattle.scheduler.proofs.thread.Thread.in_state.Tie as tie
 
-returns : tie.Need-returns
-unfolding inState
-returns c = refl
-
 pub in-state-spec : {M : Type 1} → statement M
-in-state-spec = tie.close (tie.spec returns)
+unfolding inState
+in-state-spec = tie.close (tie.spec (λ c. refl))

@@ -3,9 +3,6 @@ use Rattle.scheduler.specs.Sound.{limitsb}
 use Rattle.scheduler.proofs.thread.Thread.is_limited.Statement.{statement}
 use Rattle.scheduler.proofs.thread.Thread.is_limited.Tie as tie
 
-returns : tie.Need-returns
-unfolding limitsb
-returns c = refl
-
 pub is-limited-spec : {M : Type 1} → statement M
-is-limited-spec = tie.close (tie.spec returns)
+unfolding limitsb
+is-limited-spec = tie.close (tie.spec (λ c. refl))

@@ -3,9 +3,6 @@ use Rattle.scheduler.specs.Threads.{waitsb}
 use Rattle.scheduler.proofs.thread.Thread.is_waiting.Statement.{statement}
 use Rattle.scheduler.proofs.thread.Thread.is_waiting.Tie as tie
 
-returns : tie.Need-returns
-unfolding waitsb
-returns c = refl
-
 pub is-waiting-spec : {M : Type 1} → statement M
-is-waiting-spec = tie.close (tie.spec returns)
+unfolding waitsb
+is-waiting-spec = tie.close (tie.spec (λ c. refl))

@@ -3,9 +3,6 @@ use Rattle.scheduler.specs.Sound.{zerob}
 use Rattle.scheduler.proofs.thread.Thread.is_zero.Statement.{statement}
 use Rattle.scheduler.proofs.thread.Thread.is_zero.Tie as tie
 
-returns : tie.Need-returns
-unfolding zerob
-returns c = refl
-
 pub is-zero-spec : {M : Type 1} → statement M
-is-zero-spec = tie.close (tie.spec returns)
+unfolding zerob
+is-zero-spec = tie.close (tie.spec (λ c. refl))

@@ -3,9 +3,6 @@ use Rattle.scheduler.specs.Changes.{withLevels}
 use Rattle.scheduler.proofs.thread.Thread.with_levels.Statement.{statement}
 use Rattle.scheduler.proofs.thread.Thread.with_levels.Tie as tie
 
-returns : tie.Need-returns
-unfolding withLevels
-returns c = refl
-
 pub with-levels-spec : {M : Type 1} → statement M
-with-levels-spec = tie.close (tie.spec returns)
+unfolding withLevels
+with-levels-spec = tie.close (tie.spec (λ c. refl))

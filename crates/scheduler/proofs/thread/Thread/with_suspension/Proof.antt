@@ -3,9 +3,6 @@ use Rattle.scheduler.specs.Threads.{withSuspension}
 use Rattle.scheduler.proofs.thread.Thread.with_suspension.Statement.{statement}
 use Rattle.scheduler.proofs.thread.Thread.with_suspension.Tie as tie
 
-returns : tie.Need-returns
-unfolding withSuspension
-returns c = refl
-
 pub with-suspension-spec : {M : Type 1} → statement M
-with-suspension-spec = tie.close (tie.spec returns)
+unfolding withSuspension
+with-suspension-spec = tie.close (tie.spec (λ c. refl))
