@@ -12,7 +12,7 @@ use borrow.Author.Tests.{ltb-true, leb-true, le-leb, eqb-true, eq-eqb, ne-eqb}
 use Rattle.lines.specs.Logic.{oneIf}
 use Rattle.lines.specs.Lists.{count, below}
 use Rattle.lines.proofs.Laws.Logic.{by-test, by-eq, and-left, and-right, and-in, one-at-most, all-at, all-in}
-use Rattle.lines.proofs.Laws.Lists.{length-without, count-one}
+use Rattle.lines.proofs.Laws.Lists.{count-one}
 use Rattle.lines.proofs.Laws.Lines.{take-one}
 use Rattle.lines.proofs.Laws.Slots.{same-test, all-same}
 use Rattle.blocks.specs.Pools.{onceb}
@@ -23,10 +23,6 @@ unfolding below
 below-at n [] e i h = absurd (not-suc-le-zero h)
 below-at n (x ∷ xs) e zero h = ltb-true x n (and-left (ltb x n) (below n xs) e)
 below-at n (x ∷ xs) e (suc i) h = below-at n xs (and-right (ltb x n) (below n xs) e) i (le-of-suc-le-suc h)
-
--- ---- counting
-pub count-small : (t : ℕ) (xs : List ℕ) → count t xs ≤ length xs
-count-small t xs = let e = length-without t xs in omega (arith, e)
 
 -- ---- all but the first
 pub count-left : (t : ℕ) (xs : List ℕ) → count t (drop 1 xs) ≤ count t xs

@@ -8,60 +8,36 @@ use Rattle.calls.specs.Calls.{decoded, knownCall, threadNumber, semaphor
 use Rattle.calls.proofs.Laws.Calls.{decoded-as, unknown}
 use Rattle.calls.proofs.call.decode.Statement.{statement}
 use Rattle.calls.proofs.call.decode.Tie as tie
-use Rattle.calls.proofs.call.decode.Reads as reads
-use Rattle.calls.proofs.call.decode.Lts as lts
-use Rattle.calls.proofs.call.block_number.Reads as block-number-reads
-use Rattle.calls.proofs.call.group_id.Reads as group-id-reads
-use Rattle.calls.proofs.call.pool_id.Reads as pool-id-reads
-use Rattle.calls.proofs.call.queue_id.Reads as queue-id-reads
-use Rattle.calls.proofs.call.semaphore_id.Reads as semaphore-id-reads
-use Rattle.calls.proofs.call.thread_id.Reads as thread-id-reads
 
--- what the six calls before the match ask and ensure
-abbrev claims : lts.Claims
-claims = (
-  thread-id-reads.Asked,
-  thread-id-reads.Learnt,
-  semaphore-id-reads.Asked,
-  semaphore-id-reads.Learnt,
-  queue-id-reads.Asked,
-  queue-id-reads.Learnt,
-  group-id-reads.Asked,
-  group-id-reads.Learnt,
-  pool-id-reads.Asked,
-  pool-id-reads.Learnt,
-  block-number-reads.Asked,
-  block-number-reads.Learnt,
-)
+module _ (k : tie.After-block-number) where
+  -- the first argument, and its five ids
+  abbrev first : ℕ
+  first = k .before .before .before .before .before .before .before .args .a
 
-module _ (k : lts.After-block-number claims reads.Pre reads.Post) where
-  -- the arguments
-  abbrev x : lts.Args claims reads.Pre reads.Post
-  x = k .before .before .before .before .before .before .before .args
-
-  -- the five ids are those of the first argument
-  thread : k .before .before .before .before .before .thread-id .result ≡ threadNumber (x .a)
+  thread : k .before .before .before .before .before .thread-id .result ≡ threadNumber first
   thread = λ i. record { 0 = k .before .before .before .before .before .thread-id .ensures i }
 
-  semaphore : k .before .before .before .before .semaphore-id .result ≡ semaphoreNumber (x .a)
+  semaphore : k .before .before .before .before .semaphore-id .result ≡ semaphoreNumber first
   semaphore = λ i. record { 0 = k .before .before .before .before .semaphore-id .ensures i }
 
-  queue : k .before .before .before .queue-id .result ≡ queueNumber (x .a)
+  queue : k .before .before .before .queue-id .result ≡ queueNumber first
   queue = λ i. record { 0 = k .before .before .before .queue-id .ensures i }
 
-  group : k .before .before .group-id .result ≡ groupNumber (x .a)
+  group : k .before .before .group-id .result ≡ groupNumber first
   group = λ i. record { 0 = k .before .before .group-id .ensures i }
 
-  pool : k .before .pool-id .result ≡ poolNumber (x .a)
+  pool : k .before .pool-id .result ≡ poolNumber first
   pool = λ i. record { 0 = k .before .pool-id .ensures i }
 
   -- and the block is that of the second
-  block : k .block-number .result ≡ blockNumber (x .b)
+  block : k .block-number .result ≡ blockNumber (k .before .before .before .before .before .before .before .args .b)
   block = k .block-number .ensures
 
   -- the caller is known: what is decoded is the call of the number
-  known : (m : ℕ) → x .number ≡ m → knownCall m (x .a) (x .b) (x .c) (x .d) ≡ decoded (x .number) (x .caller) (x .a) (x .b) (x .c) (x .d)
-  known m e = sym (decoded-as (x .number) m (x .caller) (x .a) (x .b) (x .c) (x .d) (k .before .before .before .before .before .before .if1 .left) e)
+  known : (m : ℕ) → let x = k .before .before .before .before .before .before .before .args in x .number ≡ m → knownCall m (x .a) (x .b) (x .c) (x .d) ≡ decoded (x .number) (x .caller) (x .a) (x .b) (x .c) (x .d)
+  known m e =
+      let x = k .before .before .before .before .before .before .before .args in
+      sym (decoded-as (x .number) m (x .caller) (x .a) (x .b) (x .c) (x .d) (k .before .before .before .before .before .before .if1 .left) e)
 
 returns : tie.Need-returns
 unfolding decoded

@@ -1,7 +1,6 @@
 use mathlib.Core.Logic.{⊎-elim}
 use mathlib.Core.Path.{_≡_, sym, _∙_}
 use mathlib.Core.List.{append-nil}
-use Prim.Native.Nat.{_≤_}
 use native.Mathlib.Omega.{arith}
 use borrow.Author.Needs.{needs}
 use lib.ListN.{length}
@@ -12,29 +11,18 @@ use Rattle.scheduler.proofs.Laws.Orders.{thread-out}
 use Rattle.scheduler.proofs.Scheduler.moved.Statement.{statement}
 use Rattle.scheduler.proofs.Scheduler.moved.Tie as tie
 
-returns : tie.Need-returns
-unfolding moved withOrder withThread toEnd toFront
-returns c =
-    let a = c .before .before .before .before .before .before .args in
+-- with its number in the table or past it, the thread has its record
+stored : (k : tie.Joined1) → let a = k .before .before .before .args in k .if1 .self ≡ withThread (a .t1) (a .t .0) (a .th)
+unfolding withThread
+stored k =
+    let a = k .before .before .before .args in
     let e : length (a .t1 .threads) ≡ 32 = search length-mapped in
-    let z : c .before .before .before .if1 .self ≡ withThread (a .t1) (a .t .0) (a .th) =
-    ⊎-elim
-    (λ w. w .1)
-    (λ w. w .1 ∙ sym (thread-out (a .t1) (a .t .0) (a .th) (let h : length (a .t1 .threads) ≤ a .t .0 = (let l = w .0 .left in omega (arith, l)) in h)))
-    (c .before .before .before .if1 .came) in
-    rw (← c .before .before .is-standing .ensures, c .before .if2 .taken, z, c .joined-end .ensures)
-
-returns-2 : tie.Need-returns-2
-unfolding moved withOrder withThread toEnd toFront
-returns-2 c =
-    let a = c .before .before .before .before .before .before .args in
-    let e : length (a .t1 .threads) ≡ 32 = search length-mapped in
-    let z : c .before .before .before .if1 .self ≡ withThread (a .t1) (a .t .0) (a .th) =
-    ⊎-elim
-    (λ w. w .1)
-    (λ w. w .1 ∙ sym (thread-out (a .t1) (a .t .0) (a .th) (let h : length (a .t1 .threads) ≤ a .t .0 = (let l = w .0 .left in omega (arith, l)) in h)))
-    (c .before .before .before .if1 .came) in
-    rw (← c .before .before .is-standing .ensures, c .before .if2 .left, z, c .without .ensures, append-nil)
+    ⊎-elim (λ w. w .1) (λ w. w .1 ∙ sym (thread-out (a .t1) (a .t .0) (a .th) (let l = w .0 .left in omega (arith, l)))) (k .if1 .came)
 
 pub moved-spec : {M : Type 1} → statement M
-moved-spec = tie.close (tie.spec (search needs) (search needs) (search needs) (search needs) (search needs) (search needs) returns returns-2)
+unfolding moved withOrder toEnd toFront
+moved-spec =
+    tie.close
+    (tie.spec (search needs) (search needs) (search needs) (search needs) (search needs) (search needs)
+    (λ c. rw (← c .before .before .is-standing .ensures, c .before .if2 .taken, stored (c .before .before .before), c .joined-end .ensures))
+    (λ c. rw (← c .before .before .is-standing .ensures, c .before .if2 .left, stored (c .before .before .before), c .without .ensures, append-nil)))
