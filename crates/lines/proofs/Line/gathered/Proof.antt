@@ -64,7 +64,6 @@ loop-again-3 c =
     let l = c .before .before .before .loop in
     let a = c .before .before .before .before .before .before .before .before .args in
     let ys = onlyIf (a .lead) (a .t .0) in
-    let o : Line = record { ids = l .out; len = l .len } in
     let h : l .i < length (a .self .ids) = omega arith in
     let g = gather-skip ys (a .t .0) (a .self .ids) (l .i) h (c .if1 .left) in
     (omega arith, omega arith, l .inv .2, l .inv .3, l .inv .4, l .inv .5 ∙ ap lineOf (sym g))

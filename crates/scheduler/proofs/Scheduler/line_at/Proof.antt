@@ -51,7 +51,6 @@ loop-again-2 c =
     let a = c .before .before .before .before .before .before .before .before .before .args in
     let l = c .before .before .before .before .before .loop in
     let f : ℕ → Bool = λ t. placedb (a .p) (threadAt (a .t1) t) in
-    let o : Line = record { ids = l .out; len = l .len } in
     let e : length (a .t1 .threads) ≡ 32 = search length-mapped in
     let x = getD (a .t1 .order .ids) (l .i) 0 in
     let q : l .i < length (a .t1 .order .ids) = omega arith in
@@ -64,7 +63,6 @@ loop-again-3 c =
     let a = c .before .before .before .before .before .before .args in
     let l = c .before .before .loop in
     let f : ℕ → Bool = λ t. placedb (a .p) (threadAt (a .t1) t) in
-    let o : Line = record { ids = l .out; len = l .len } in
     let e : length (a .t1 .threads) ≡ 32 = search length-mapped in
     let x = getD (a .t1 .order .ids) (l .i) 0 in
     let q : l .i < length (a .t1 .order .ids) = omega arith in
