@@ -29,7 +29,7 @@ unfoldable pub tableOf : {A : Type 0} → (List ℕ → A) → ℕ → ℕ → L
 tableOf read size n b = map (λ i. read (part (size * i) size b)) (numbersFrom 0 n)
 
 -- n words, one behind the other
-unfoldable pub wordsOf : ℕ → List ℕ → List ℕ
+abbrev pub wordsOf : ℕ → List ℕ → List ℕ
 wordsOf n b = tableOf wordOf 4 n b
 
 -- ---- writing
