@@ -68,3 +68,31 @@ module _ {A : Type 0} (read : List ℕ → A) (size n : ℕ) (b : List ℕ) wher
       length-take-le (size * i + size - size * i) (drop (size * i) b) (omega arith) ∙ (let z : size * i + size - size * i ≡ size = omega arith in z)
 
 pub ruleset reads = (needs, read-none, read-more, read-all, record-size)
+
+-- ---- bytes that are copied one by one
+-- the first i of n bytes of b are copied to l
+pub record Copied (n : ℕ) (b l : List ℕ) (i : ℕ) : Type 0 where
+  pub within : i ≤ n
+  pub long : length l ≡ n
+  pub whole : length b ≡ n
+  pub front : take i l ≡ take i b
+
+module _ (n : ℕ) (b l : List ℕ) where
+  pub copied-none : length l ≡ n → length b ≡ n → Copied n b l 0
+  copied-none h k = record { within = omega arith; long = h; whole = k; front = refl }
+
+  -- one more byte
+  pub copied-more : (i : ℕ) → Copied n b l i → i < n → Copied n b (set l i (getD b i 0)) (i + 1)
+  copied-more i r h =
+      record {
+        within = omega arith;
+        long = simp length-set (r .long);
+        whole = r .whole;
+        front = rw add-one (take-suc-set l i (getD b i 0) (omega arith) ∙ ap (λ (k : List ℕ). k ++ (getD b i 0 ∷ [])) (r .front) ∙ sym (take-suc b i 0 (omega arith)));
+      }
+
+  -- all bytes
+  pub copied-all : (i : ℕ) → Copied n b l i → n ≤ i → l ≡ b
+  copied-all i r h = sym (take-all i l (omega arith)) ∙ r .front ∙ take-all i b (omega arith)
+
+pub ruleset copies = (needs, copied-none, copied-more, copied-all)
