@@ -1,4 +1,5 @@
 pub mod Tables
 pub mod Reading
+pub mod Writing
 pub mod Library
 pub mod Restored
