@@ -1,5 +1,6 @@
 pub mod Tables
 pub mod Reading
 pub mod Writing
+pub mod Flags
 pub mod Library
 pub mod Restored

@@ -1,61 +1,19 @@
-use mathlib.Core.Path.{_≡_, refl, ap, _∙_}
-use Prim.Native.Nat.{ℕ, _≤_, _+_, _-_, _*_}
-use native.Mathlib.Omega.{arith}
-use borrow.Author.Needs.{needs}
-use mathlib.Core.Bool.{_&&_}
-use Rattle.lines.specs.Logic.{allBelow}
-use Rattle.lines.proofs.Laws.Logic.{all-more}
+use Prim.Native.Nat.{ℕ, _+_, _-_, _*_}
 use Rattle.apachimo.specs.State.{flagb, poolFlagsb}
+use Rattle.apachimo.proofs.Laws.Flags.{Tested, tests}
 use Rattle.apachimo.proofs.flags.pools_fit.Statement.{statement}
 use Rattle.apachimo.proofs.flags.pools_fit.Tie as tie
 
 abbrev Inv-loop : tie.InvT-loop
-Inv-loop block fit₀ i₀ fit i = (i ≤ 4) × (fit ≡ allBelow i (λ (i : ℕ). flagb block (7034 + 72 * i)))
+Inv-loop block fit₀ i₀ fit i = Tested block (λ (j : ℕ). flagb block (7034 + 72 * j)) 4 fit i
 
 abbrev μ-loop : tie.MeasureT-loop
 μ-loop block fit₀ i₀ fit i = 4 - i
 
-loop-holds : tie.Need-loop-holds Inv-loop μ-loop
-unfolding allBelow
-loop-holds c = (omega arith, refl)
-
-mul-is-flag : tie.Need-mul-is-flag Inv-loop μ-loop
-mul-is-flag c = search needs
-
-add-is-flag : tie.Need-add-is-flag Inv-loop μ-loop
-add-is-flag c = search needs
-
-is-flag-requires : tie.Need-is-flag-requires Inv-loop μ-loop
-is-flag-requires c κs = omega (arith, c .before .before .before .pre)
-
-add-i : tie.Need-add-i Inv-loop μ-loop
-add-i c = search needs
-
-loop-less : tie.Need-loop-less Inv-loop μ-loop
-loop-less c = search needs
-
-loop-again : tie.Need-loop-again Inv-loop μ-loop
-loop-again c =
-    let l = c .before .before .loop in
-    (omega arith, (λ j. l .inv .1 j && (c .is-flag .ensures j)) ∙ all-more (λ (i : ℕ). flagb (c .before .before .before .before .args .block .now) (7034 + 72 * i)) (l .i))
-
-returns : tie.Need-returns Inv-loop μ-loop
-unfolding poolFlagsb
-returns c =
-    let l = c .before .loop in
-    l .inv .1 ∙ ap (λ (n : ℕ). allBelow n (λ (i : ℕ). flagb (c .before .before .before .args .block .now) (7034 + 72 * i))) (let e : l .i ≡ 4 = omega arith in e)
-
 pub pools-fit-spec : {M : Type 1} → statement M
+unfolding poolFlagsb
 pools-fit-spec =
     tie.close
-    (tie.spec
-    Inv-loop
-    μ-loop
-    loop-holds
-    mul-is-flag
-    add-is-flag
-    is-flag-requires
-    add-i
-    loop-less
-    loop-again
-    returns)
+    (tie.spec Inv-loop μ-loop
+    (λ c. search tests) (λ c. search tests) (λ c. search tests) (λ c. search tests) (λ c. search tests)
+    (λ c. search tests) (λ c. search tests) (λ c. search tests))
