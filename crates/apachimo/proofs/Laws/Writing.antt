@@ -5,9 +5,10 @@ use Prim.Native.Nat.{ℕ, zero, suc, _+_, _-_, _*_, _≤_, _<_}
 use native.Mathlib.Omega.{arith}
 use native.Mathlib.Numerals.{add-one}
 use native.Mathlib.Nat.{mul-suc, mul-le-mul-left}
-use lib.ListN.{length, take, drop, getD, length-drop}
-use lib.Seq.{take-all, take-suc, length-take-le}
-use borrow.Author.Needs.{needs}
+use lib.ListN.{length, take, drop, getD, set, length-append, length-drop, take-append-drop}
+use lib.Seq.{take-all, take-at, take-suc, take-suc-set, drop-drop, drop-length, length-take-le, length-front}
+use lib.Dec.{lit≤}
+use borrow.Author.Needs.{needs, set-long}
 use Rattle.scheduler.proofs.Laws.Threads.{length-mapped}
 use Rattle.apachimo.specs.Blocks.{allBytes}
 use Rattle.apachimo.proofs.Laws.Tables.{Done, none-done, part-done, all-done}
@@ -65,3 +66,52 @@ module _ {A : Type 0} (write : A → List ℕ) (size n : ℕ) (xs : List A) (old
       length-take-le (size * i + size - size * i) (drop (size * i) b) (omega arith) ∙ (let z : size * i + size - size * i ≡ size = omega arith in z)
 
 pub ruleset puts = (needs, length-mapped, put-none, put-more, put-all, put-size)
+
+-- ---- a block that is written from front to end: its bytes are found from the end on
+module _ (b total : List ℕ) where
+  -- the last part
+  pub last-part : (ys : List ℕ) (n k : ℕ) → length b ≡ n + k → length ys ≡ length (take k (drop n b)) → take n b ++ ys ≡ total → take n b ++ (ys ++ drop k (drop n b)) ≡ total
+  last-part ys n k h q e =
+      let d = drop-drop k n b in
+      (λ j. take n b ++ (ys ++ (d ∙ ap (λ (m : ℕ). drop m b) (sym h) ∙ drop-length b) j)) ∙ ap (λ (l : List ℕ). take n b ++ l) (append-nil ys) ∙ e
+
+  -- a part at the front
+  pub first-part : (ys rest : List ℕ) (k : ℕ) → k ≤ length b → length ys ≡ length (take k b) → ys ++ rest ≡ total → take k (ys ++ drop k b) ++ rest ≡ total
+  first-part ys rest k l q e = ap (λ (r : List ℕ). r ++ rest) (take-at ys (drop k b) k (q ∙ length-take-le k b l)) ∙ e
+
+  -- a part before the rest
+  pub part-before : (ys rest : List ℕ) (n k m : ℕ) → m ≡ n + k → n + k ≤ length b → length ys ≡ length (take k (drop n b)) → take n b ++ (ys ++ rest) ≡ total
+      → take m (take n b ++ (ys ++ drop k (drop n b))) ++ rest ≡ total
+  part-before ys rest n k m z l q e =
+      let d = length-drop n b in
+      let s = length-take-le k (drop n b) (omega arith) in
+      let t = length-take-le n b (omega arith) in
+      let a = length-append (take n b) ys in
+      ap (λ (r : List ℕ). take m r ++ rest) (sym (append-assoc (take n b) ys (drop k (drop n b))))
+      ∙ ap (λ (r : List ℕ). r ++ rest) (take-at (take n b ++ ys) (drop k (drop n b)) m (omega arith))
+      ∙ append-assoc (take n b) ys rest
+      ∙ e
+
+  -- a byte before the rest
+  pub byte-before : (rest : List ℕ) (x n m : ℕ) → m ≡ n + 1 → n < length b → take n b ++ (x ∷ rest) ≡ total → take m (set b n x) ++ rest ≡ total
+  byte-before rest x n m z l e =
+      ap (λ (k : ℕ). take k (set b n x) ++ rest) (let y : m ≡ suc n = omega arith in y)
+      ∙ ap (λ (r : List ℕ). r ++ rest) (take-suc-set b n x l)
+      ∙ append-assoc (take n b) (x ∷ []) rest
+      ∙ e
+
+-- equal parts and bytes, one behind the other
+pub same-join : (xs vs ys ws : List ℕ) → xs ≡ vs → ys ≡ ws → xs ++ ys ≡ vs ++ ws
+same-join xs vs ys ws e f = λ j. e j ++ f j
+
+pub same-next : (x v : ℕ) (ys ws : List ℕ) → x ≡ v → ys ≡ ws → x ∷ ys ≡ v ∷ ws
+same-next x v ys ws e f = λ j. e j ∷ f j
+
+-- a block keeps its length, and has room for what is written to it
+pub kept-part : (b ys : List ℕ) (n k size : ℕ) → length ys ≡ length (take k (drop n b)) → length b ≡ size → length (take n b ++ (ys ++ drop k (drop n b))) ≡ size
+kept-part b ys n k size q h = length-append (take n b) (ys ++ drop k (drop n b)) ∙ ap (λ (m : ℕ). length (take n b) + m) (length-front (drop n b) ys k q) ∙ sym (length-append (take n b) (drop n b)) ∙ ap length (take-append-drop n b) ∙ h
+
+pub room : (size : ℕ) (b : List ℕ) (m : ℕ) → length b ≡ size → m ≤ size → m ≤ length b
+room size b m h k = omega arith
+
+pub ruleset fills = (last-part, first-part, part-before, byte-before, same-join, same-next, kept-part, length-front, set-long, lit≤, tt)
