@@ -12,15 +12,6 @@ use Rattle.kernel.specs.Runs.{replyOf}
 use Rattle.apachimo.proofs.apachimo_call.Statement.{statement}
 use Rattle.apachimo.proofs.apachimo_call.Tie as tie
 
-block-refusal-requires : tie.Need-block-refusal-requires
-block-refusal-requires c κs = search needs
-
-no-reply-requires : tie.Need-no-reply-requires
-no-reply-requires c κs = search needs
-
-same-length : tie.Need-same-length
-same-length c = search needs
-
 returns : tie.Need-returns
 unfolding callReply callBlock
 returns c = rw (← c .before .before .block-refusal .ensures, ne-eqb (c .before .before .block-refusal .result) 0 (c .before .if1 .taken)) (c .no-reply .ensures, refl)
@@ -28,20 +19,8 @@ returns c = rw (← c .before .before .block-refusal .ensures, ne-eqb (c .before
 kernel-of-requires : tie.Need-kernel-of-requires
 kernel-of-requires c κs = block-sized (c .before .before .before .before .before .before .args .state .now) (sym (c .before .before .block-refusal .ensures) ∙ c .before .if1 .left)
 
-call-requires : tie.Need-call-requires
-call-requires c κs = search needs
-
-cast-t20 : tie.Need-cast-t20
-cast-t20 c = search needs
-
-is-done-requires : tie.Need-is-done-requires
-is-done-requires c κs = search needs
-
 put-answer-requires : tie.Need-put-answer-requires
 put-answer-requires c κs = block-sized (c .before .before .before .before .before .before .before .before .before .before .before .before .before .before .args .state .now) (sym (c .before .before .before .before .before .before .before .before .before .before .block-refusal .ensures) ∙ c .before .before .before .before .before .before .before .before .before .if1 .left)
-
-same-length-2 : tie.Need-same-length-2
-same-length-2 c = search needs
 
 returns-2 : tie.Need-returns-2
 unfolding callReply callBlock replyOf
@@ -50,9 +29,6 @@ returns-2 c =
     let e = c .before .before .before .before .before .before .before .before .before .call .ensures ∙ ap (λ (k : Kernel). call k (a .number) (a .caller) (a .a) (a .b) (a .c) (a .d) (a .messages .now)) (c .before .before .before .before .before .before .before .before .before .before .kernel-of .ensures) in
     let t = sym (ap (λ (x : Answer). doneb (x .status)) e) ∙ sym (c .before .before .before .before .before .is-done .ensures) ∙ c .before .before .before .before .if2 .taken in
     rw (← c .before .before .before .before .before .before .before .before .before .before .before .before .before .block-refusal .ensures, eq-eqb (c .before .before .before .before .before .before .before .before .before .before .before .before .before .block-refusal .result) 0 (c .before .before .before .before .before .before .before .before .before .before .before .before .if1 .left), t) (ap replyOf e, c .before .before .put-answer .ensures ∙ ap (λ (x : Answer). bytesOf (x .kernel)) e)
-
-same-length-3 : tie.Need-same-length-3
-same-length-3 c = search needs
 
 returns-3 : tie.Need-returns-3
 unfolding callReply callBlock replyOf
@@ -66,16 +42,6 @@ pub apachimo-call-spec : {M : Type 1} → statement M
 apachimo-call-spec =
     tie.close
     (tie.spec
-    block-refusal-requires
-    no-reply-requires
-    same-length
-    returns
-    kernel-of-requires
-    call-requires
-    cast-t20
-    is-done-requires
-    put-answer-requires
-    same-length-2
-    returns-2
-    same-length-3
-    returns-3)
+    (λ c. search needs) (λ c. search needs) (λ c. search needs) returns kernel-of-requires
+    (λ c. search needs) (λ c. search needs) (λ c. search needs) put-answer-requires (λ c. search needs)
+    returns-2 (λ c. search needs) returns-3)

@@ -6,18 +6,12 @@ use Rattle.apachimo.proofs.Laws.Library.{block-sized}
 use Rattle.apachimo.proofs.apachimo_is_sound.Statement.{statement}
 use Rattle.apachimo.proofs.apachimo_is_sound.Tie as tie
 
-block-refusal-requires : tie.Need-block-refusal-requires
-block-refusal-requires c κs = search needs
-
 returns : tie.Need-returns
 unfolding soundStatus
 returns c = rw (← c .before .block-refusal .ensures, ne-eqb (c .before .block-refusal .result) 0 (c .if1 .taken))
 
 kernel-of-requires : tie.Need-kernel-of-requires
 kernel-of-requires c κs = block-sized (c .before .before .before .args .state .now) (sym (c .before .block-refusal .ensures) ∙ c .if1 .left)
-
-is-sound-requires : tie.Need-is-sound-requires
-is-sound-requires c κs = search needs
 
 returns-2 : tie.Need-returns-2
 unfolding soundStatus
@@ -31,9 +25,5 @@ pub apachimo-is-sound-spec : {M : Type 1} → statement M
 apachimo-is-sound-spec =
     tie.close
     (tie.spec
-    block-refusal-requires
-    returns
-    kernel-of-requires
-    is-sound-requires
-    returns-2
+    (λ c. search needs) returns kernel-of-requires (λ c. search needs) returns-2
     returns-3)

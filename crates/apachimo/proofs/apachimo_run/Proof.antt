@@ -12,15 +12,6 @@ use Rattle.kernel.specs.Runs.{ran, ranReplies}
 use Rattle.apachimo.proofs.apachimo_run.Statement.{statement}
 use Rattle.apachimo.proofs.apachimo_run.Tie as tie
 
-run-refusal-requires : tie.Need-run-refusal-requires
-run-refusal-requires c κs = search needs
-
-wanted-requires : tie.Need-wanted-requires
-wanted-requires c κs = search needs
-
-same-length : tie.Need-same-length
-same-length c = search needs
-
 returns : tie.Need-returns
 unfolding runResult runBlock runReplies
 returns c =
@@ -29,9 +20,6 @@ returns c =
     let s = c .wanted .ensures in
     rw q ((λ j. record { status = c .before .if1 .taken j; carried = s j }), (refl, refl))
 
-same-length-2 : tie.Need-same-length-2
-same-length-2 c = search needs
-
 returns-2 : tie.Need-returns-2
 unfolding runResult runBlock runReplies
 returns-2 c = rw (← c .before .before .run-refusal .ensures, ne-eqb (c .before .before .run-refusal .result) 0 (c .if2 .taken), ne-eqb (c .before .before .run-refusal .result) 256 (c .before .if1 .left)) (refl, (refl, refl))
@@ -39,17 +27,8 @@ returns-2 c = rw (← c .before .before .run-refusal .ensures, ne-eqb (c .before
 kernel-of-requires : tie.Need-kernel-of-requires
 kernel-of-requires c κs = run-sized (c .before .before .before .before .before .before .before .before .args .state .now) (c .before .before .before .before .before .before .before .before .args .tape .now) (c .before .before .before .before .before .before .before .before .args .most) (length (c .before .before .before .before .before .before .before .before .args .replies .now)) (sym (c .before .before .before .run-refusal .ensures) ∙ c .before .if2 .left)
 
-run-requires : tie.Need-run-requires
-run-requires c κs = search needs
-
 put-kernel-requires : tie.Need-put-kernel-requires
 put-kernel-requires c κs = run-sized (c .before .before .before .before .before .before .before .before .before .before .before .before .before .before .before .before .before .args .state .now) (c .before .before .before .before .before .before .before .before .before .before .before .before .before .before .before .before .before .args .tape .now) (c .before .before .before .before .before .before .before .before .before .before .before .before .before .before .before .before .before .args .most) (length (c .before .before .before .before .before .before .before .before .before .before .before .before .before .before .before .before .before .args .replies .now)) (sym (c .before .before .before .before .before .before .before .before .before .before .before .before .run-refusal .ensures) ∙ c .before .before .before .before .before .before .before .before .before .before .if2 .left)
-
-same-length-3 : tie.Need-same-length-3
-same-length-3 c = search needs
-
-same-length-4 : tie.Need-same-length-4
-same-length-4 c = search needs
 
 returns-3 : tie.Need-returns-3
 unfolding runResult runBlock runReplies
@@ -61,12 +40,6 @@ returns-3 c =
     let o = c .before .before .before .before .before .before .before .before .before .run .ensures .1 ∙ ap (λ (k : Kernel). ranReplies k (a .tape .now) (a .most) (a .replies .now)) (c .before .before .before .before .before .before .before .before .before .before .before .kernel-of .ensures) in
     let t = sym (ap (λ (x : Ran). eqb (x .status) 0) e) ∙ eq-eqb (c .before .before .before .before .before .before .before .before .before .run .result .status) 0 (c .before .before .before .before .before .if3 .taken) in
     rw (z, t) ((λ j. record { status = e j .status; carried = e j .carried }), (c .before .before .put-kernel .ensures ∙ ap (λ (x : Ran). bytesOf (x .kernel)) e, o))
-
-same-length-5 : tie.Need-same-length-5
-same-length-5 c = search needs
-
-same-length-6 : tie.Need-same-length-6
-same-length-6 c = search needs
 
 returns-4 : tie.Need-returns-4
 unfolding runResult runBlock runReplies
@@ -83,18 +56,6 @@ pub apachimo-run-spec : {M : Type 1} → statement M
 apachimo-run-spec =
     tie.close
     (tie.spec
-    run-refusal-requires
-    wanted-requires
-    same-length
-    returns
-    same-length-2
-    returns-2
-    kernel-of-requires
-    run-requires
-    put-kernel-requires
-    same-length-3
-    same-length-4
-    returns-3
-    same-length-5
-    same-length-6
-    returns-4)
+    (λ c. search needs) (λ c. search needs) (λ c. search needs) returns (λ c. search needs)
+    returns-2 kernel-of-requires (λ c. search needs) put-kernel-requires (λ c. search needs)
+    (λ c. search needs) returns-3 (λ c. search needs) (λ c. search needs) returns-4)

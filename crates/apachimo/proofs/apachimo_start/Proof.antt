@@ -7,23 +7,14 @@ use Rattle.apachimo.specs.Library.{startStatus, startBlock}
 use Rattle.apachimo.proofs.apachimo_start.Statement.{statement}
 use Rattle.apachimo.proofs.apachimo_start.Tie as tie
 
-returns : tie.Need-returns
-unfolding startStatus startBlock
-returns c = rw (ne-eqb (length (c .before .before .args .state .now)) 7326 (c .if1 .taken)) (refl, refl)
-
-start-requires : tie.Need-start-requires
-start-requires c κs = search needs
-
-put-kernel-requires : tie.Need-put-kernel-requires
-put-kernel-requires c κs = search needs
-
-same-length : tie.Need-same-length
-same-length c = search needs
-
 returns-2 : tie.Need-returns-2
 unfolding startStatus startBlock
 returns-2 c = rw (eq-eqb (length (c .before .before .before .before .before .before .before .args .state .now)) 7326 (c .before .before .before .before .before .if1 .left)) (refl, c .before .before .put-kernel .ensures ∙ ap bytesOf (c .before .before .before .start .ensures))
 
 pub apachimo-start-spec : {M : Type 1} → statement M
+unfolding startStatus startBlock
 apachimo-start-spec =
-    tie.close (tie.spec returns start-requires put-kernel-requires same-length returns-2)
+    tie.close
+    (tie.spec
+    (λ c. rw (ne-eqb (length (c .before .before .args .state .now)) 7326 (c .if1 .taken)) (refl, refl)) (λ c. search needs)
+    (λ c. search needs) (λ c. search needs) returns-2)

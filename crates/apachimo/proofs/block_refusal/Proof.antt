@@ -5,13 +5,6 @@ use Rattle.apachimo.specs.Library.{blockRefusal}
 use Rattle.apachimo.proofs.block_refusal.Statement.{statement}
 use Rattle.apachimo.proofs.block_refusal.Tie as tie
 
-returns : tie.Need-returns
-unfolding blockRefusal
-returns c = rw (ne-eqb (length (c .before .before .args .state .now)) 7326 (c .if1 .taken))
-
-are-fit-requires : tie.Need-are-fit-requires
-are-fit-requires c κs = search needs
-
 returns-2 : tie.Need-returns-2
 unfolding blockRefusal
 returns-2 c = rw (eq-eqb (length (c .before .before .before .before .args .state .now)) 7326 (c .before .before .if1 .left), ← c .before .are-fit .ensures, c .if2 .taken)
@@ -21,4 +14,9 @@ unfolding blockRefusal
 returns-3 c = rw (eq-eqb (length (c .before .before .before .before .args .state .now)) 7326 (c .before .before .if1 .left), ← c .before .are-fit .ensures, c .if2 .left)
 
 pub block-refusal-spec : {M : Type 1} → statement M
-block-refusal-spec = tie.close (tie.spec returns are-fit-requires returns-2 returns-3)
+unfolding blockRefusal
+block-refusal-spec =
+    tie.close
+    (tie.spec
+    (λ c. rw (ne-eqb (length (c .before .before .args .state .now)) 7326 (c .if1 .taken))) (λ c. search needs)
+    returns-2 returns-3)

@@ -6,25 +6,9 @@ use Rattle.apachimo.specs.Library.{runRefusal}
 use Rattle.apachimo.proofs.run_refusal.Statement.{statement}
 use Rattle.apachimo.proofs.run_refusal.Tie as tie
 
-returns : tie.Need-returns
-unfolding runRefusal
-returns c = rw (ne-eqb (length (c .before .before .before .args .state .now)) 7326 (c .if1 .taken))
-
-is-refused-requires : tie.Need-is-refused-requires
-is-refused-requires c κs = search needs
-
 returns-2 : tie.Need-returns-2
 unfolding runRefusal
 returns-2 c = rw (eq-eqb (length (c .before .before .before .before .before .args .state .now)) 7326 (c .before .before .if1 .left), ← c .before .is-refused .ensures, c .if2 .taken)
-
-wanted-requires : tie.Need-wanted-requires
-wanted-requires c κs = search needs
-
-cast-if3 : tie.Need-cast-if3
-cast-if3 c = search needs
-
-mul-if3 : tie.Need-mul-if3
-mul-if3 c = search needs
 
 returns-3 : tie.Need-returns-3
 unfolding runRefusal
@@ -32,9 +16,6 @@ returns-3 c =
     let a = c .before .before .before .before .before .before .before .args in
     let n = c .before .wanted .ensures in
     rw (eq-eqb (length (c .before .before .before .before .before .before .before .args .state .now)) 7326 (c .before .before .before .before .if1 .left), ← c .before .before .before .is-refused .ensures, c .before .before .if2 .left, ← n, lt-ltb (a .room) (19 * c .before .wanted .result) (c .if3 .taken))
-
-are-fit-requires : tie.Need-are-fit-requires
-are-fit-requires c κs = search needs
 
 returns-4 : tie.Need-returns-4
 unfolding runRefusal
@@ -51,16 +32,10 @@ returns-5 c =
     rw (eq-eqb (length (c .before .before .before .before .before .before .before .before .before .args .state .now)) 7326 (c .before .before .before .before .before .before .if1 .left), ← c .before .before .before .before .before .is-refused .ensures, c .before .before .before .before .if2 .left, ← n, le-ltb (a .room) (19 * c .before .before .before .wanted .result) (c .before .before .if3 .left), ← c .before .are-fit .ensures, c .if4 .left)
 
 pub run-refusal-spec : {M : Type 1} → statement M
+unfolding runRefusal
 run-refusal-spec =
     tie.close
     (tie.spec
-    returns
-    is-refused-requires
-    returns-2
-    wanted-requires
-    cast-if3
-    mul-if3
-    returns-3
-    are-fit-requires
-    returns-4
-    returns-5)
+    (λ c. rw (ne-eqb (length (c .before .before .before .args .state .now)) 7326 (c .if1 .taken))) (λ c. search needs)
+    returns-2 (λ c. search needs) (λ c. search needs) (λ c. search needs) returns-3
+    (λ c. search needs) returns-4 returns-5)

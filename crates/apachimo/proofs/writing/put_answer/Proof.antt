@@ -8,42 +8,6 @@ use Rattle.apachimo.proofs.Laws.Tables.{none-done, within, part-done, a
 use Rattle.apachimo.proofs.writing.put_answer.Statement.{statement}
 use Rattle.apachimo.proofs.writing.put_answer.Tie as tie
 
-sub-put-scheduler : tie.Need-sub-put-scheduler
-sub-put-scheduler c = search needs
-
-part-put-scheduler-start : tie.Need-part-put-scheduler-start
-part-put-scheduler-start c = search needs
-
-part-put-scheduler-end : tie.Need-part-put-scheduler-end
-part-put-scheduler-end c = search needs
-
-put-scheduler-requires : tie.Need-put-scheduler-requires
-put-scheduler-requires c κs = search needs
-
-sub-put-all-held : tie.Need-sub-put-all-held
-sub-put-all-held c = search needs
-
-part-put-all-held-start : tie.Need-part-put-all-held-start
-part-put-all-held-start c = search needs
-
-part-put-all-held-end : tie.Need-part-put-all-held-end
-part-put-all-held-end c = search needs
-
-put-all-held-requires : tie.Need-put-all-held-requires
-put-all-held-requires c κs = search needs
-
-sub-put-objects : tie.Need-sub-put-objects
-sub-put-objects c = search needs
-
-part-put-objects-start : tie.Need-part-put-objects-start
-part-put-objects-start c = search needs
-
-part-put-objects-end : tie.Need-part-put-objects-end
-part-put-objects-end c = search needs
-
-put-objects-requires : tie.Need-put-objects-requires
-put-objects-requires c κs = search needs
-
 same-length : tie.Need-same-length
 same-length c = c .before .b3 .given .1 ∙ c .before .before .before .before .before .b2 .given .1 ∙ c .before .before .before .before .before .before .before .before .before .b .given .1
 
@@ -61,17 +25,6 @@ pub put-answer-spec : {M : Type 1} → statement M
 put-answer-spec =
     tie.close
     (tie.spec
-    sub-put-scheduler
-    part-put-scheduler-start
-    part-put-scheduler-end
-    put-scheduler-requires
-    sub-put-all-held
-    part-put-all-held-start
-    part-put-all-held-end
-    put-all-held-requires
-    sub-put-objects
-    part-put-objects-start
-    part-put-objects-end
-    put-objects-requires
-    same-length
-    returns)
+    (λ c. search needs) (λ c. search needs) (λ c. search needs) (λ c. search needs) (λ c. search needs)
+    (λ c. search needs) (λ c. search needs) (λ c. search needs) (λ c. search needs) (λ c. search needs)
+    (λ c. search needs) (λ c. search needs) same-length returns)

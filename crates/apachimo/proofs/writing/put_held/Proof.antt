@@ -8,68 +8,17 @@ use Rattle.apachimo.proofs.Laws.Tables.{none-done, nested7, part-done, 
 use Rattle.apachimo.proofs.writing.put_held.Statement.{statement}
 use Rattle.apachimo.proofs.writing.put_held.Tie as tie
 
-sub-put-word : tie.Need-sub-put-word
-sub-put-word c = search needs
-
-part-put-word-start : tie.Need-part-put-word-start
-part-put-word-start c = search needs
-
-part-put-word-end : tie.Need-part-put-word-end
-part-put-word-end c = search needs
-
-put-word-requires : tie.Need-put-word-requires
-put-word-requires c κs = search needs
-
-sub-put-words : tie.Need-sub-put-words
-sub-put-words c = search needs
-
-part-put-words-start : tie.Need-part-put-words-start
-part-put-words-start c = search needs
-
-part-put-words-end : tie.Need-part-put-words-end
-part-put-words-end c = search needs
-
-put-words-requires : tie.Need-put-words-requires
-put-words-requires c κs = search needs
-
-flag-byte-requires : tie.Need-flag-byte-requires
-flag-byte-requires c κs = search needs
-
-slice-write-b : tie.Need-slice-write-b
-slice-write-b c = search needs
-
-flag-byte-requires-2 : tie.Need-flag-byte-requires-2
-flag-byte-requires-2 c κs = search needs
-
 slice-write-b-2 : tie.Need-slice-write-b-2
 slice-write-b-2 c = let k = (c .before .before .before .b2 .given .1 ∙ c .before .before .before .before .before .before .before .b .given .1 ∙ c .before .before .before .before .before .before .before .before .before .before .before .before .before .pre) in simp length-set (omega (arith, k))
-
-sub-put-word-2 : tie.Need-sub-put-word-2
-sub-put-word-2 c = search needs
-
-part-put-word-start-2 : tie.Need-part-put-word-start-2
-part-put-word-start-2 c = search needs
 
 part-put-word-end-2 : tie.Need-part-put-word-end-2
 part-put-word-end-2 c = let k = (c .before .before .before .b2 .given .1 ∙ c .before .before .before .before .before .before .before .b .given .1 ∙ c .before .before .before .before .before .before .before .before .before .before .before .before .before .pre) in simp length-set (omega (arith, k))
 
-put-word-requires-2 : tie.Need-put-word-requires-2
-put-word-requires-2 c κs = search needs
-
 slice-write-b-3 : tie.Need-slice-write-b-3
 slice-write-b-3 c = let k = ((simp length-set at (c .before .b3 .given .1)) ∙ c .before .before .before .before .before .before .before .b2 .given .1 ∙ c .before .before .before .before .before .before .before .before .before .before .before .b .given .1 ∙ c .before .before .before .before .before .before .before .before .before .before .before .before .before .before .before .before .before .pre) in omega (arith, k)
 
-sub-put-words-2 : tie.Need-sub-put-words-2
-sub-put-words-2 c = search needs
-
-part-put-words-start-2 : tie.Need-part-put-words-start-2
-part-put-words-start-2 c = search needs
-
 part-put-words-end-2 : tie.Need-part-put-words-end-2
 part-put-words-end-2 c = let k = ((simp length-set at (c .before .b3 .given .1)) ∙ c .before .before .before .before .before .before .before .b2 .given .1 ∙ c .before .before .before .before .before .before .before .before .before .before .before .b .given .1 ∙ c .before .before .before .before .before .before .before .before .before .before .before .before .before .before .before .before .before .pre) in simp length-set (omega (arith, k))
-
-put-words-requires-2 : tie.Need-put-words-requires-2
-put-words-requires-2 c κs = search needs
 
 same-length : tie.Need-same-length
 same-length c = c .before .b4 .given .1 ∙ simp length-set (((simp length-set at (c .before .before .before .before .before .b3 .given .1)) ∙ c .before .before .before .before .before .before .before .before .before .before .before .b2 .given .1 ∙ c .before .before .before .before .before .before .before .before .before .before .before .before .before .before .before .b .given .1 ∙ c .before .before .before .before .before .before .before .before .before .before .before .before .before .before .before .before .before .before .before .before .before .pre) ∙ sym (c .before .before .before .before .before .before .before .before .before .before .before .before .before .before .before .before .before .before .before .before .before .pre))
@@ -97,26 +46,8 @@ pub put-held-spec : {M : Type 1} → statement M
 put-held-spec =
     tie.close
     (tie.spec
-    sub-put-word
-    part-put-word-start
-    part-put-word-end
-    put-word-requires
-    sub-put-words
-    part-put-words-start
-    part-put-words-end
-    put-words-requires
-    flag-byte-requires
-    slice-write-b
-    flag-byte-requires-2
-    slice-write-b-2
-    sub-put-word-2
-    part-put-word-start-2
-    part-put-word-end-2
-    put-word-requires-2
-    slice-write-b-3
-    sub-put-words-2
-    part-put-words-start-2
-    part-put-words-end-2
-    put-words-requires-2
-    same-length
-    returns)
+    (λ c. search needs) (λ c. search needs) (λ c. search needs) (λ c. search needs) (λ c. search needs)
+    (λ c. search needs) (λ c. search needs) (λ c. search needs) (λ c. search needs) (λ c. search needs)
+    (λ c. search needs) slice-write-b-2 (λ c. search needs) (λ c. search needs) part-put-word-end-2
+    (λ c. search needs) slice-write-b-3 (λ c. search needs) (λ c. search needs) part-put-words-end-2
+    (λ c. search needs) same-length returns)

@@ -7,65 +7,8 @@ use Rattle.apachimo.proofs.Laws.Tables.{none-done, within, nested5, par
 use Rattle.apachimo.proofs.writing.put_objects.Statement.{statement}
 use Rattle.apachimo.proofs.writing.put_objects.Tie as tie
 
-sub-put-semaphores : tie.Need-sub-put-semaphores
-sub-put-semaphores c = search needs
-
-part-put-semaphores-start : tie.Need-part-put-semaphores-start
-part-put-semaphores-start c = search needs
-
-part-put-semaphores-end : tie.Need-part-put-semaphores-end
-part-put-semaphores-end c = search needs
-
-put-semaphores-requires : tie.Need-put-semaphores-requires
-put-semaphores-requires c κs = search needs
-
-sub-put-queues : tie.Need-sub-put-queues
-sub-put-queues c = search needs
-
-part-put-queues-start : tie.Need-part-put-queues-start
-part-put-queues-start c = search needs
-
-part-put-queues-end : tie.Need-part-put-queues-end
-part-put-queues-end c = search needs
-
-put-queues-requires : tie.Need-put-queues-requires
-put-queues-requires c κs = search needs
-
-sub-put-groups : tie.Need-sub-put-groups
-sub-put-groups c = search needs
-
-part-put-groups-start : tie.Need-part-put-groups-start
-part-put-groups-start c = search needs
-
-part-put-groups-end : tie.Need-part-put-groups-end
-part-put-groups-end c = search needs
-
-put-groups-requires : tie.Need-put-groups-requires
-put-groups-requires c κs = search needs
-
-sub-put-pools : tie.Need-sub-put-pools
-sub-put-pools c = search needs
-
-part-put-pools-start : tie.Need-part-put-pools-start
-part-put-pools-start c = search needs
-
-part-put-pools-end : tie.Need-part-put-pools-end
-part-put-pools-end c = search needs
-
-put-pools-requires : tie.Need-put-pools-requires
-put-pools-requires c κs = search needs
-
-sub-put-word : tie.Need-sub-put-word
-sub-put-word c = search needs
-
-part-put-word-start : tie.Need-part-put-word-start
-part-put-word-start c = search needs
-
 part-put-word-end : tie.Need-part-put-word-end
 part-put-word-end c = within (c .before .b4 .given .1 ∙ c .before .before .before .before .before .b3 .given .1 ∙ c .before .before .before .before .before .before .before .before .before .b2 .given .1 ∙ c .before .before .before .before .before .before .before .before .before .before .before .before .before .b .given .1 ∙ c .before .before .before .before .before .before .before .before .before .before .before .before .before .before .before .before .before .pre) (let z : 2492 ≤ 2492 = omega arith in z)
-
-put-word-requires : tie.Need-put-word-requires
-put-word-requires c κs = search needs
 
 same-length : tie.Need-same-length
 same-length c = c .before .b5 .given .1 ∙ c .before .before .before .before .before .b4 .given .1 ∙ c .before .before .before .before .before .before .before .before .before .b3 .given .1 ∙ c .before .before .before .before .before .before .before .before .before .before .before .before .before .b2 .given .1 ∙ c .before .before .before .before .before .before .before .before .before .before .before .before .before .before .before .before .before .b .given .1
@@ -86,25 +29,8 @@ pub put-objects-spec : {M : Type 1} → statement M
 put-objects-spec =
     tie.close
     (tie.spec
-    sub-put-semaphores
-    part-put-semaphores-start
-    part-put-semaphores-end
-    put-semaphores-requires
-    sub-put-queues
-    part-put-queues-start
-    part-put-queues-end
-    put-queues-requires
-    sub-put-groups
-    part-put-groups-start
-    part-put-groups-end
-    put-groups-requires
-    sub-put-pools
-    part-put-pools-start
-    part-put-pools-end
-    put-pools-requires
-    sub-put-word
-    part-put-word-start
-    part-put-word-end
-    put-word-requires
-    same-length
-    returns)
+    (λ c. search needs) (λ c. search needs) (λ c. search needs) (λ c. search needs) (λ c. search needs)
+    (λ c. search needs) (λ c. search needs) (λ c. search needs) (λ c. search needs) (λ c. search needs)
+    (λ c. search needs) (λ c. search needs) (λ c. search needs) (λ c. search needs) (λ c. search needs)
+    (λ c. search needs) (λ c. search needs) (λ c. search needs) part-put-word-end (λ c. search needs)
+    same-length returns)
