@@ -1,96 +1,52 @@
--- Blocks that are written from front to end: parts and bytes behind what is done, and tables record by record.
+-- Blocks that are written from front to end: bytes and parts one behind the other, and tables record by record.
 use mathlib.Core.Path.{_≡_, refl, sym, ap, _∙_}
 use mathlib.Core.List.{List, [], _∷_, _++_, append-assoc, append-nil}
-use Prim.Native.Nat.{ℕ, zero, suc, _+_, _-_, _*_, _≤_, _<_}
+use Prim.Native.Nat.{ℕ, suc, _+_, _-_, _*_, _≤_, _<_}
 use native.Mathlib.Omega.{arith}
 use native.Mathlib.Numerals.{add-one}
 use native.Mathlib.Nat.{mul-suc, mul-le-mul-left}
-use lib.ListN.{length, take, drop, getD, set, length-append, length-drop, take-append-drop}
-use lib.Seq.{take-all, take-at, take-suc, take-suc-set, drop-drop, drop-length, length-take-le, length-front}
 use lib.Dec.{lit≤}
+use lib.ListN.{length, take, drop, getD, set, length-append, length-set, length-drop, take-append-drop}
+use lib.Seq.{take-all, take-at, take-suc, take-suc-set, drop-drop, drop-length, length-take-le, length-front, sets, sets-eq}
 use borrow.Author.Needs.{needs, set-long}
 use Rattle.scheduler.proofs.Laws.Threads.{length-mapped}
 use Rattle.apachimo.specs.Blocks.{allBytes}
-use Rattle.apachimo.proofs.Laws.Tables.{Done, none-done, part-done, all-done}
 
--- the first i of n records of `size` bytes are written to the block b, which was `old`
-pub record Put {A : Type 0} (write : A → List ℕ) (size n : ℕ) (xs : List A) (old b : List ℕ) (i : ℕ) : Type 0 where
-  pub within : i ≤ n
-  pub many : length xs ≡ n
-  pub before : length old ≡ size * n
-  pub whole : length b ≡ size * n
-  pub done : Done (allBytes write (take i xs)) old b (size * i)
+-- a block whose bytes are all stored, one by one
+pub stored : (b vs : List ℕ) → length b ≡ length vs → sets b 0 vs ≡ vs
+stored b vs h = sets-eq vs b 0 (omega arith) ∙ ap (λ (r : List ℕ). vs ++ r) (ap (λ (k : ℕ). drop k b) (let e : 0 + length vs ≡ length b = omega arith in e) ∙ drop-length b) ∙ append-nil vs
 
-module _ {A : Type 0} (write : A → List ℕ) (size n : ℕ) (xs : List A) (old : List ℕ) where
-  all-last : (ys : List A) (x : A) → allBytes write (ys ++ (x ∷ [])) ≡ allBytes write ys ++ write x
-  unfolding allBytes
-  all-last [] x = append-nil (write x)
-  all-last (y ∷ ys) x = ap (λ (r : List ℕ). write y ++ r) (all-last ys x) ∙ sym (append-assoc (write y) (allBytes write ys) (write x))
+-- ---- a part ys of k bytes, written from byte n on
+module _ (b ys : List ℕ) (n k : ℕ) where
+  -- the block keeps its length
+  pub kept-part : (size : ℕ) → length ys ≡ length (take k (drop n b)) → length b ≡ size → length (take n b ++ (ys ++ drop k (drop n b))) ≡ size
+  kept-part size q h =
+      length-append (take n b) (ys ++ drop k (drop n b))
+      ∙ ap (λ (m : ℕ). length (take n b) + m) (length-front (drop n b) ys k q)
+      ∙ sym (length-append (take n b) (drop n b))
+      ∙ ap length (take-append-drop n b)
+      ∙ h
 
-  pub put-none : length xs ≡ n → length old ≡ size * n → Put write size n xs old old 0
-  unfolding allBytes
-  put-none h k = let z : size * 0 ≡ 0 = omega arith in record { within = omega arith; many = h; before = k; whole = k; done = rw z (none-done old) }
-
-  record-end : (i : ℕ) → i < n → size * i + size ≤ size * n
-  record-end i h = let m = mul-le-mul-left size h in let e = mul-suc size i in omega arith
-
-  -- one more record
-  pub put-more : (b ys : List ℕ) (i : ℕ) (d : A) → Put write size n xs old b i → i < n → ys ≡ write (getD xs i d)
-      → length ys ≡ length (take (size * i + size - size * i) (drop (size * i) b))
-      → length (take (size * i) b ++ (ys ++ drop (size * i + size - size * i) (drop (size * i) b))) ≡ length b
-      → Put write size n xs old (take (size * i) b ++ (ys ++ drop (size * i + size - size * i) (drop (size * i) b))) (i + 1)
-  put-more b ys i d r h v q k =
-      let e = record-end i h in
-      let m = mul-suc size i in
-      let s : size * suc i ≡ size * i + (size * i + size - size * i) = omega arith in
-      let on : allBytes write (take (suc i) xs) ≡ allBytes write (take i xs) ++ ys = ap (allBytes write) (take-suc xs i d (omega arith)) ∙ all-last (take i xs) (getD xs i d) ∙ ap (λ (l : List ℕ). allBytes write (take i xs) ++ l) (sym v) in
-      record {
-        within = omega arith;
-        many = r .many;
-        before = r .before;
-        whole = k ∙ r .whole;
-        done = rw (add-one, on, s) (part-done (r .done) ys (size * i + size - size * i) (omega arith) q);
-      }
-
-  -- all records
-  pub put-all : (b : List ℕ) (i : ℕ) → Put write size n xs old b i → n ≤ i → b ≡ allBytes write xs
-  put-all b i r h =
-      let q : i ≡ n = omega arith in
-      all-done (r .done) (r .before ∙ ap (λ (k : ℕ). size * k) (sym q)) ∙ ap (allBytes write) (take-all i xs (omega arith))
-
-  -- the part that a record is written to has its size
-  pub put-size : (b : List ℕ) (i : ℕ) → Put write size n xs old b i → i < n → length (take (size * i + size - size * i) (drop (size * i) b)) ≡ size
-  put-size b i r h =
-      let e = record-end i h in
-      let d = length-drop (size * i) b in
-      length-take-le (size * i + size - size * i) (drop (size * i) b) (omega arith) ∙ (let z : size * i + size - size * i ≡ size = omega arith in z)
-
-pub ruleset puts = (needs, length-mapped, put-none, put-more, put-all, put-size)
-
--- ---- a block that is written from front to end: its bytes are found from the end on
-module _ (b total : List ℕ) where
-  -- the last part
-  pub last-part : (ys : List ℕ) (n k : ℕ) → length b ≡ n + k → length ys ≡ length (take k (drop n b)) → take n b ++ ys ≡ total → take n b ++ (ys ++ drop k (drop n b)) ≡ total
-  last-part ys n k h q e =
-      let d = drop-drop k n b in
-      (λ j. take n b ++ (ys ++ (d ∙ ap (λ (m : ℕ). drop m b) (sym h) ∙ drop-length b) j)) ∙ ap (λ (l : List ℕ). take n b ++ l) (append-nil ys) ∙ e
-
-  -- a part at the front
-  pub first-part : (ys rest : List ℕ) (k : ℕ) → k ≤ length b → length ys ≡ length (take k b) → ys ++ rest ≡ total → take k (ys ++ drop k b) ++ rest ≡ total
-  first-part ys rest k l q e = ap (λ (r : List ℕ). r ++ rest) (take-at ys (drop k b) k (q ∙ length-take-le k b l)) ∙ e
-
-  -- a part before the rest
-  pub part-before : (ys rest : List ℕ) (n k m : ℕ) → m ≡ n + k → n + k ≤ length b → length ys ≡ length (take k (drop n b)) → take n b ++ (ys ++ rest) ≡ total
-      → take m (take n b ++ (ys ++ drop k (drop n b))) ++ rest ≡ total
-  part-before ys rest n k m z l q e =
+  -- its bytes up to the end of the part
+  front-part : (m : ℕ) → m ≡ n + k → n + k ≤ length b → length ys ≡ length (take k (drop n b)) → take m (take n b ++ (ys ++ drop k (drop n b))) ≡ take n b ++ ys
+  front-part m z l q =
       let d = length-drop n b in
       let s = length-take-le k (drop n b) (omega arith) in
       let t = length-take-le n b (omega arith) in
       let a = length-append (take n b) ys in
-      ap (λ (r : List ℕ). take m r ++ rest) (sym (append-assoc (take n b) ys (drop k (drop n b))))
-      ∙ ap (λ (r : List ℕ). r ++ rest) (take-at (take n b ++ ys) (drop k (drop n b)) m (omega arith))
-      ∙ append-assoc (take n b) ys rest
-      ∙ e
+      ap (take m) (sym (append-assoc (take n b) ys (drop k (drop n b)))) ∙ take-at (take n b ++ ys) (drop k (drop n b)) m (omega arith)
+
+-- ---- the bytes of a written block, found from its end on
+module _ (b total : List ℕ) where
+  -- the last part
+  pub last-part : (ys : List ℕ) (n k : ℕ) → length b ≡ n + k → length ys ≡ length (take k (drop n b)) → take n b ++ ys ≡ total → take n b ++ (ys ++ drop k (drop n b)) ≡ total
+  last-part ys n k h q e =
+      sym (take-all (n + k) _ (let w = kept-part b ys n k (n + k) q h in omega arith)) ∙ front-part b ys n k (n + k) refl (omega arith) q ∙ e
+
+  -- a part before the rest
+  pub part-before : (ys rest : List ℕ) (n k m : ℕ) → m ≡ n + k → n + k ≤ length b → length ys ≡ length (take k (drop n b)) → take n b ++ (ys ++ rest) ≡ total
+      → take m (take n b ++ (ys ++ drop k (drop n b))) ++ rest ≡ total
+  part-before ys rest n k m z l q e = ap (λ (r : List ℕ). r ++ rest) (front-part b ys n k m z l q) ∙ append-assoc (take n b) ys rest ∙ e
 
   -- a byte before the rest
   pub byte-before : (rest : List ℕ) (x n m : ℕ) → m ≡ n + 1 → n < length b → take n b ++ (x ∷ rest) ≡ total → take m (set b n x) ++ rest ≡ total
@@ -107,11 +63,86 @@ same-join xs vs ys ws e f = λ j. e j ++ f j
 pub same-next : (x v : ℕ) (ys ws : List ℕ) → x ≡ v → ys ≡ ws → x ∷ ys ≡ v ∷ ws
 same-next x v ys ws e f = λ j. e j ∷ f j
 
--- a block keeps its length, and has room for what is written to it
-pub kept-part : (b ys : List ℕ) (n k size : ℕ) → length ys ≡ length (take k (drop n b)) → length b ≡ size → length (take n b ++ (ys ++ drop k (drop n b))) ≡ size
-kept-part b ys n k size q h = length-append (take n b) (ys ++ drop k (drop n b)) ∙ ap (λ (m : ℕ). length (take n b) + m) (length-front (drop n b) ys k q) ∙ sym (length-append (take n b) (drop n b)) ∙ ap length (take-append-drop n b) ∙ h
-
+-- a block of a known length has room for what is written to it
 pub room : (size : ℕ) (b : List ℕ) (m : ℕ) → length b ≡ size → m ≤ size → m ≤ length b
 room size b m h k = omega arith
 
-pub ruleset fills = (last-part, first-part, part-before, byte-before, same-join, same-next, kept-part, length-front, set-long, lit≤, tt)
+pub ruleset fills = (last-part, part-before, byte-before, same-join, same-next, kept-part, length-front, set-long, lit≤, tt)
+
+-- ---- the same from the front on: the first n bytes of b, and with any rest f of it
+pub record Done (f : List ℕ → List ℕ) (size : ℕ) (b : List ℕ) (n : ℕ) : Type 0 where
+  pub long : length b ≡ size
+  pub front : (rest : List ℕ) → take n b ++ rest ≡ f rest
+
+pub none-done : {size : ℕ} (b : List ℕ) → length b ≡ size → Done (λ (r : List ℕ). r) size b 0
+none-done b h = record { long = h; front = λ rest. refl }
+
+module _ {f : List ℕ → List ℕ} {size : ℕ} {b : List ℕ} {n : ℕ} (d : Done f size b n) where
+  -- a byte more
+  pub byte-done : (x : ℕ) → n < size → Done (λ (r : List ℕ). f (x ∷ r)) size (set b n x) (n + 1)
+  byte-done x l = record { long = simp length-set (d .long); front = λ rest. byte-before b _ rest x n (n + 1) refl (let h = d .long in omega arith) (d .front (x ∷ rest)) }
+
+  -- a part more
+  pub part-done : (ys : List ℕ) (k : ℕ) → n + k ≤ size → length ys ≡ length (take k (drop n b)) → Done (λ (r : List ℕ). f (ys ++ r)) size (take n b ++ (ys ++ drop k (drop n b))) (n + k)
+  part-done ys k l q =
+      record {
+        long = kept-part b ys n k size q (d .long);
+        front = λ rest. part-before b _ ys rest n k (n + k) refl (let h = d .long in omega arith) q (d .front (ys ++ rest));
+      }
+
+  -- the last part
+  pub last-done : (ys : List ℕ) (k : ℕ) → size ≡ n + k → length ys ≡ length (take k (drop n b)) → take n b ++ (ys ++ drop k (drop n b)) ≡ f ys
+  last-done ys k e q = last-part b _ ys n k (d .long ∙ e) q (d .front ys)
+
+-- ---- a table that is written: the first i of n records of `size` bytes
+pub record Put {A : Type 0} (write : A → List ℕ) (size n : ℕ) (xs : List A) (b : List ℕ) (i : ℕ) : Type 0 where
+  pub within : i ≤ n
+  pub many : length xs ≡ n
+  pub whole : length b ≡ size * n
+  pub front : take (size * i) b ≡ allBytes write (take i xs)
+
+module _ {A : Type 0} (write : A → List ℕ) (size n : ℕ) (xs : List A) (b : List ℕ) where
+  all-last : (ys : List A) (x : A) → allBytes write (ys ++ (x ∷ [])) ≡ allBytes write ys ++ write x
+  unfolding allBytes
+  all-last [] x = append-nil (write x)
+  all-last (y ∷ ys) x = ap (λ (r : List ℕ). write y ++ r) (all-last ys x) ∙ sym (append-assoc (write y) (allBytes write ys) (write x))
+
+  record-end : (i : ℕ) → i < n → size * i + size ≤ size * n
+  record-end i h = let m = mul-le-mul-left size h in let e = mul-suc size i in omega arith
+
+  pub put-none : length xs ≡ n → length b ≡ size * n → Put write size n xs b 0
+  unfolding allBytes
+  put-none h k = record { within = omega arith; many = h; whole = k; front = ap (λ (m : ℕ). take m b) (let z : size * 0 ≡ 0 = omega arith in z) }
+
+  -- one more record
+  pub put-more : (ys : List ℕ) (i : ℕ) (d : A) → Put write size n xs b i → i < n → ys ≡ write (getD xs i d)
+      → length ys ≡ length (take (size * i + size - size * i) (drop (size * i) b))
+      → Put write size n xs (take (size * i) b ++ (ys ++ drop (size * i + size - size * i) (drop (size * i) b))) (i + 1)
+  put-more ys i d r h v q =
+      let e = record-end i h in
+      let m = mul-suc size i in
+      record {
+        within = omega arith;
+        many = r .many;
+        whole = kept-part b ys (size * i) (size * i + size - size * i) (size * n) q (r .whole);
+        front =
+            rw add-one
+            (front-part b ys (size * i) (size * i + size - size * i) (size * suc i) (omega arith) (omega arith) q
+            ∙ (λ j. r .front j ++ v j)
+            ∙ sym (ap (allBytes write) (take-suc xs i d (omega arith)) ∙ all-last (take i xs) (getD xs i d)));
+      }
+
+  -- all records
+  pub put-all : (i : ℕ) → Put write size n xs b i → n ≤ i → b ≡ allBytes write xs
+  put-all i r h =
+      let q : n ≡ i = omega arith in
+      sym (take-all (size * i) b (let w = r .whole ∙ ap (λ (k : ℕ). size * k) q in omega arith)) ∙ r .front ∙ ap (allBytes write) (take-all i xs (omega arith))
+
+  -- the part that a record is written to has its size
+  pub put-size : (i : ℕ) → Put write size n xs b i → i < n → length (take (size * i + size - size * i) (drop (size * i) b)) ≡ size
+  put-size i r h =
+      let e = record-end i h in
+      let d = length-drop (size * i) b in
+      length-take-le (size * i + size - size * i) (drop (size * i) b) (omega arith) ∙ (let z : size * i + size - size * i ≡ size = omega arith in z)
+
+pub ruleset puts = (needs, length-mapped, put-none, put-more, put-all, put-size)

@@ -5,7 +5,7 @@ use Rattle.apachimo.proofs.writing.put_all_held.Statement.{statement}
 use Rattle.apachimo.proofs.writing.put_all_held.Tie as tie
 
 abbrev Inv-loop : tie.InvT-loop
-Inv-loop b₀ all i₀ b i = Put heldBytes 139 32 all b₀ b i
+Inv-loop b₀ all i₀ b i = Put heldBytes 139 32 all b i
 
 abbrev μ-loop : tie.MeasureT-loop
 μ-loop b₀ all i₀ b i = 32 - i

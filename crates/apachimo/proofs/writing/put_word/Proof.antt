@@ -1,6 +1,6 @@
 use borrow.Author.Needs.{needs}
 use Rattle.apachimo.specs.Blocks.{wordBytes}
-use Rattle.apachimo.proofs.Laws.Tables.{stored}
+use Rattle.apachimo.proofs.Laws.Writing.{stored}
 use Rattle.apachimo.proofs.writing.put_word.Statement.{statement}
 use Rattle.apachimo.proofs.writing.put_word.Tie as tie
 
