@@ -79,20 +79,21 @@ none-done b h = record { long = h; front = λ rest. refl }
 
 module _ {f : List ℕ → List ℕ} {size : ℕ} {b : List ℕ} {n : ℕ} (d : Done f size b n) where
   -- a byte more
-  pub byte-done : (x : ℕ) → n < size → Done (λ (r : List ℕ). f (x ∷ r)) size (set b n x) (n + 1)
-  byte-done x l = record { long = simp length-set (d .long); front = λ rest. byte-before b _ rest x n (n + 1) refl (let h = d .long in omega arith) (d .front (x ∷ rest)) }
+  pub byte-done : {x v : ℕ} → x ≡ v → n < size → Done (λ (r : List ℕ). f (v ∷ r)) size (set b n x) (n + 1)
+  byte-done {x} {v} e l =
+      record { long = simp length-set (d .long); front = λ rest. byte-before b _ rest x n (n + 1) refl (let h = d .long in omega arith) (d .front (x ∷ rest) ∙ ap (λ (y : ℕ). f (y ∷ rest)) e) }
 
   -- a part more
-  pub part-done : (ys : List ℕ) (k : ℕ) → n + k ≤ size → length ys ≡ length (take k (drop n b)) → Done (λ (r : List ℕ). f (ys ++ r)) size (take n b ++ (ys ++ drop k (drop n b))) (n + k)
-  part-done ys k l q =
+  pub part-done : {ys vs : List ℕ} → ys ≡ vs → (k : ℕ) → n + k ≤ size → length ys ≡ length (take k (drop n b)) → Done (λ (r : List ℕ). f (vs ++ r)) size (take n b ++ (ys ++ drop k (drop n b))) (n + k)
+  part-done {ys} {vs} e k l q =
       record {
         long = kept-part b ys n k size q (d .long);
-        front = λ rest. part-before b _ ys rest n k (n + k) refl (let h = d .long in omega arith) q (d .front (ys ++ rest));
+        front = λ rest. part-before b _ ys rest n k (n + k) refl (let h = d .long in omega arith) q (d .front (ys ++ rest) ∙ ap (λ (y : List ℕ). f (y ++ rest)) e);
       }
 
   -- the last part
-  pub last-done : (ys : List ℕ) (k : ℕ) → size ≡ n + k → length ys ≡ length (take k (drop n b)) → take n b ++ (ys ++ drop k (drop n b)) ≡ f ys
-  last-done ys k e q = last-part b _ ys n k (d .long ∙ e) q (d .front ys)
+  pub last-done : {ys vs : List ℕ} → ys ≡ vs → (k : ℕ) → size ≡ n + k → length ys ≡ length (take k (drop n b)) → take n b ++ (ys ++ drop k (drop n b)) ≡ f vs
+  last-done {ys} {vs} e k z q = last-part b _ ys n k (d .long ∙ z) q (d .front ys ∙ ap f e)
 
 -- ---- a table that is written: the first i of n records of `size` bytes
 pub record Put {A : Type 0} (write : A → List ℕ) (size n : ℕ) (xs : List A) (b : List ℕ) (i : ℕ) : Type 0 where
