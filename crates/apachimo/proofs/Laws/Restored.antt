@@ -163,7 +163,6 @@ words-size : (n : ℕ) (xs : List ℕ) → Array Word n xs → length (allBytes 
 words-size = table-size wordBytes 4 Word word-size
 
 words-kept : (n : ℕ) (xs : List ℕ) → Array Word n xs → wordsOf n (allBytes wordBytes xs) ≡ xs
-unfolding wordsOf
 words-kept = table-kept wordBytes 4 Word word-size wordOf word-kept
 
 -- ---- records: how many bytes each has, and that it is read as it was written
@@ -252,7 +251,7 @@ module _ (h : Held) (f : HeldFits h) where
   front-byte = byte-on (heldBytes h) 68 (behindWords h) 1 flags-from
 
   held-kept : heldOf (heldBytes h) ≡ h
-  unfolding heldOf heldBytes wordBytes wordsOf part
+  unfolding heldOf heldBytes wordBytes part
   held-kept =
       let b = heldBytes h in
       let words = table-here wordBytes 4 Word word-size wordOf word-kept b 4 16 (h .words) (behindWords h) (f .words) words-from in
