@@ -12,10 +12,6 @@ use Rattle.lines.specs.Lists.{numbersFrom}
 use Rattle.lines.proofs.Laws.Logic.{and-in, all-in}
 use Rattle.scheduler.specs.declared.thread.Thread.{Thread}
 use Rattle.scheduler.specs.declared.Scheduler.{Scheduler}
-use Rattle.objects.specs.declared.semaphore.Semaphore.{Semaphore}
-use Rattle.objects.specs.declared.queue.Queue.{Queue}
-use Rattle.objects.specs.declared.group.Group.{Group}
-use Rattle.blocks.specs.declared.pool.Pool.{Pool}
 use Rattle.calls.specs.declared.held.Held.{Held}
 use Rattle.kernel.specs.declared.Kernel.{Kernel}
 use Rattle.apachimo.specs.Blocks.{part, byteAt, wordOf, tableOf, wordsOf, flagByte, wordBytes, allBytes}

@@ -7,7 +7,7 @@ use native.Mathlib.Numerals.{add-one}
 use native.Mathlib.Nat.{mul-suc, mul-le-mul-left}
 use lib.Dec.{lit≤}
 use lib.ListN.{length, take, drop, getD, set, length-append, length-set, length-drop, take-append-drop}
-use lib.Seq.{take-all, take-at, take-suc, take-suc-set, drop-drop, drop-length, length-take-le, length-front, sets, sets-eq}
+use lib.Seq.{take-all, take-at, take-suc, take-suc-set, drop-length, length-take-le, length-front, sets, sets-eq}
 use borrow.Author.Needs.{needs, set-long}
 use Rattle.scheduler.proofs.Laws.Threads.{length-mapped}
 use Rattle.apachimo.specs.Blocks.{allBytes}

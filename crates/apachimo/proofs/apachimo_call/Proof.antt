@@ -17,10 +17,10 @@ unfolding callReply callBlock
 returns c = rw (← c .before .before .block-refusal .ensures, ne-eqb (c .before .before .block-refusal .result) 0 (c .before .if1 .taken)) (c .no-reply .ensures, refl)
 
 kernel-of-requires : tie.Need-kernel-of-requires
-kernel-of-requires c κs = block-sized (c .before .before .before .before .before .before .args .state .now) (sym (c .before .before .block-refusal .ensures) ∙ c .before .if1 .left)
+kernel-of-requires c κs = block-sized _ (sym (c .before .before .block-refusal .ensures) ∙ c .before .if1 .left)
 
 put-answer-requires : tie.Need-put-answer-requires
-put-answer-requires c κs = block-sized (c .before .before .before .before .before .before .before .before .before .before .before .before .before .before .args .state .now) (sym (c .before .before .before .before .before .before .before .before .before .before .block-refusal .ensures) ∙ c .before .before .before .before .before .before .before .before .before .if1 .left)
+put-answer-requires c κs = block-sized _ (sym (c .before .before .before .before .before .before .before .before .before .before .block-refusal .ensures) ∙ c .before .before .before .before .before .before .before .before .before .if1 .left)
 
 returns-2 : tie.Need-returns-2
 unfolding callReply callBlock replyOf

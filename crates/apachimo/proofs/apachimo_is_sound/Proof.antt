@@ -11,7 +11,7 @@ unfolding soundStatus
 returns c = rw (← c .before .block-refusal .ensures, ne-eqb (c .before .block-refusal .result) 0 (c .if1 .taken))
 
 kernel-of-requires : tie.Need-kernel-of-requires
-kernel-of-requires c κs = block-sized (c .before .before .before .args .state .now) (sym (c .before .block-refusal .ensures) ∙ c .if1 .left)
+kernel-of-requires c κs = block-sized _ (sym (c .before .block-refusal .ensures) ∙ c .if1 .left)
 
 returns-2 : tie.Need-returns-2
 unfolding soundStatus

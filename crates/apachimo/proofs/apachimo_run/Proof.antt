@@ -1,7 +1,6 @@
 use mathlib.Core.Path.{refl, sym, ap, _∙_}
 use borrow.Author.Needs.{needs}
 use borrow.Author.Tests.{eq-eqb, ne-eqb}
-use lib.ListN.{length}
 use lib.Dec.{eqb}
 use Rattle.apachimo.specs.Bytes.{bytesOf}
 use Rattle.apachimo.specs.Library.{runResult, runBlock, runReplies}
@@ -15,26 +14,23 @@ use Rattle.apachimo.proofs.apachimo_run.Tie as tie
 returns : tie.Need-returns
 unfolding runResult runBlock runReplies
 returns c =
-    let a = c .before .before .before .before .before .before .before .args in
     let q = sym (c .before .before .run-refusal .ensures) ∙ c .before .if1 .taken in
-    let s = c .wanted .ensures in
-    rw q ((λ j. record { status = c .before .if1 .taken j; carried = s j }), (refl, refl))
+    rw q ((λ j. record { status = c .before .if1 .taken j; carried = c .wanted .ensures j }), (refl, refl))
 
 returns-2 : tie.Need-returns-2
 unfolding runResult runBlock runReplies
 returns-2 c = rw (← c .before .before .run-refusal .ensures, ne-eqb (c .before .before .run-refusal .result) 0 (c .if2 .taken), ne-eqb (c .before .before .run-refusal .result) 256 (c .before .if1 .left)) (refl, (refl, refl))
 
 kernel-of-requires : tie.Need-kernel-of-requires
-kernel-of-requires c κs = run-sized (c .before .before .before .before .before .before .before .before .args .state .now) (c .before .before .before .before .before .before .before .before .args .tape .now) (c .before .before .before .before .before .before .before .before .args .most) (length (c .before .before .before .before .before .before .before .before .args .replies .now)) (sym (c .before .before .before .run-refusal .ensures) ∙ c .before .if2 .left)
+kernel-of-requires c κs = run-sized _ _ _ _ (sym (c .before .before .before .run-refusal .ensures) ∙ c .before .if2 .left)
 
 put-kernel-requires : tie.Need-put-kernel-requires
-put-kernel-requires c κs = run-sized (c .before .before .before .before .before .before .before .before .before .before .before .before .before .before .before .before .before .args .state .now) (c .before .before .before .before .before .before .before .before .before .before .before .before .before .before .before .before .before .args .tape .now) (c .before .before .before .before .before .before .before .before .before .before .before .before .before .before .before .before .before .args .most) (length (c .before .before .before .before .before .before .before .before .before .before .before .before .before .before .before .before .before .args .replies .now)) (sym (c .before .before .before .before .before .before .before .before .before .before .before .before .run-refusal .ensures) ∙ c .before .before .before .before .before .before .before .before .before .before .if2 .left)
+put-kernel-requires c κs = run-sized _ _ _ _ (sym (c .before .before .before .before .before .before .before .before .before .before .before .before .run-refusal .ensures) ∙ c .before .before .before .before .before .before .before .before .before .before .if2 .left)
 
 returns-3 : tie.Need-returns-3
 unfolding runResult runBlock runReplies
 returns-3 c =
     let a = c .before .before .before .before .before .before .before .before .before .before .before .before .before .before .before .before .before .before .before .before .args in
-    let b = c .before .before .before .before .before .before .before .before .before .before .before .before .before .before .before .before .before .before .before .before .args .state .now in
     let z = sym (c .before .before .before .before .before .before .before .before .before .before .before .before .before .before .before .run-refusal .ensures) ∙ c .before .before .before .before .before .before .before .before .before .before .before .before .before .if2 .left in
     let e = c .before .before .before .before .before .before .before .before .before .run .ensures .0 ∙ ap (λ (k : Kernel). ran k (a .tape .now) (a .most)) (c .before .before .before .before .before .before .before .before .before .before .before .kernel-of .ensures) in
     let o = c .before .before .before .before .before .before .before .before .before .run .ensures .1 ∙ ap (λ (k : Kernel). ranReplies k (a .tape .now) (a .most) (a .replies .now)) (c .before .before .before .before .before .before .before .before .before .before .before .kernel-of .ensures) in
@@ -45,7 +41,6 @@ returns-4 : tie.Need-returns-4
 unfolding runResult runBlock runReplies
 returns-4 c =
     let a = c .before .before .before .before .before .before .before .before .before .before .before .before .before .before .before .args in
-    let b = c .before .before .before .before .before .before .before .before .before .before .before .before .before .before .before .args .state .now in
     let z = sym (c .before .before .before .before .before .before .before .before .before .before .run-refusal .ensures) ∙ c .before .before .before .before .before .before .before .before .if2 .left in
     let e = c .before .before .before .before .run .ensures .0 ∙ ap (λ (k : Kernel). ran k (a .tape .now) (a .most)) (c .before .before .before .before .before .before .kernel-of .ensures) in
     let o = c .before .before .before .before .run .ensures .1 ∙ ap (λ (k : Kernel). ranReplies k (a .tape .now) (a .most) (a .replies .now)) (c .before .before .before .before .before .before .kernel-of .ensures) in

@@ -1,7 +1,6 @@
 use mathlib.Core.Path.{refl, ap, _∙_}
 use borrow.Author.Needs.{needs}
 use borrow.Author.Tests.{eq-eqb, ne-eqb}
-use lib.ListN.{length}
 use Rattle.apachimo.specs.Bytes.{bytesOf}
 use Rattle.apachimo.specs.Library.{startStatus, startBlock}
 use Rattle.apachimo.proofs.apachimo_start.Statement.{statement}
@@ -9,12 +8,12 @@ use Rattle.apachimo.proofs.apachimo_start.Tie as tie
 
 returns-2 : tie.Need-returns-2
 unfolding startStatus startBlock
-returns-2 c = rw (eq-eqb (length (c .before .before .before .before .before .before .before .args .state .now)) 7326 (c .before .before .before .before .before .if1 .left)) (refl, c .before .before .put-kernel .ensures ∙ ap bytesOf (c .before .before .before .start .ensures))
+returns-2 c = rw (eq-eqb _ _ (c .before .before .before .before .before .if1 .left)) (refl, c .before .before .put-kernel .ensures ∙ ap bytesOf (c .before .before .before .start .ensures))
 
 pub apachimo-start-spec : {M : Type 1} → statement M
 unfolding startStatus startBlock
 apachimo-start-spec =
     tie.close
     (tie.spec
-    (λ c. rw (ne-eqb (length (c .before .before .args .state .now)) 7326 (c .if1 .taken)) (refl, refl)) (λ c. search needs)
+    (λ c. rw (ne-eqb _ _ (c .if1 .taken)) (refl, refl)) (λ c. search needs)
     (λ c. search needs) (λ c. search needs) returns-2)

@@ -1,22 +1,21 @@
 use borrow.Author.Needs.{needs}
 use borrow.Author.Tests.{eq-eqb, ne-eqb}
-use lib.ListN.{length}
 use Rattle.apachimo.specs.Library.{blockRefusal}
 use Rattle.apachimo.proofs.block_refusal.Statement.{statement}
 use Rattle.apachimo.proofs.block_refusal.Tie as tie
 
 returns-2 : tie.Need-returns-2
 unfolding blockRefusal
-returns-2 c = rw (eq-eqb (length (c .before .before .before .before .args .state .now)) 7326 (c .before .before .if1 .left), ← c .before .are-fit .ensures, c .if2 .taken)
+returns-2 c = rw (eq-eqb _ _ (c .before .before .if1 .left), ← c .before .are-fit .ensures, c .if2 .taken)
 
 returns-3 : tie.Need-returns-3
 unfolding blockRefusal
-returns-3 c = rw (eq-eqb (length (c .before .before .before .before .args .state .now)) 7326 (c .before .before .if1 .left), ← c .before .are-fit .ensures, c .if2 .left)
+returns-3 c = rw (eq-eqb _ _ (c .before .before .if1 .left), ← c .before .are-fit .ensures, c .if2 .left)
 
 pub block-refusal-spec : {M : Type 1} → statement M
 unfolding blockRefusal
 block-refusal-spec =
     tie.close
     (tie.spec
-    (λ c. rw (ne-eqb (length (c .before .before .args .state .now)) 7326 (c .if1 .taken))) (λ c. search needs)
+    (λ c. rw (ne-eqb _ _ (c .if1 .taken))) (λ c. search needs)
     returns-2 returns-3)

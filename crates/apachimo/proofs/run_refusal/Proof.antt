@@ -1,41 +1,30 @@
-use Prim.Native.Nat.{_*_}
 use borrow.Author.Needs.{needs}
 use borrow.Author.Tests.{lt-ltb, le-ltb, eq-eqb, ne-eqb}
-use lib.ListN.{length}
 use Rattle.apachimo.specs.Library.{runRefusal}
 use Rattle.apachimo.proofs.run_refusal.Statement.{statement}
 use Rattle.apachimo.proofs.run_refusal.Tie as tie
 
 returns-2 : tie.Need-returns-2
 unfolding runRefusal
-returns-2 c = rw (eq-eqb (length (c .before .before .before .before .before .args .state .now)) 7326 (c .before .before .if1 .left), ← c .before .is-refused .ensures, c .if2 .taken)
+returns-2 c = rw (eq-eqb _ _ (c .before .before .if1 .left), ← c .before .is-refused .ensures, c .if2 .taken)
 
 returns-3 : tie.Need-returns-3
 unfolding runRefusal
-returns-3 c =
-    let a = c .before .before .before .before .before .before .before .args in
-    let n = c .before .wanted .ensures in
-    rw (eq-eqb (length (c .before .before .before .before .before .before .before .args .state .now)) 7326 (c .before .before .before .before .if1 .left), ← c .before .before .before .is-refused .ensures, c .before .before .if2 .left, ← n, lt-ltb (a .room) (19 * c .before .wanted .result) (c .if3 .taken))
+returns-3 c = rw (eq-eqb _ _ (c .before .before .before .before .if1 .left), ← c .before .before .before .is-refused .ensures, c .before .before .if2 .left, ← c .before .wanted .ensures, lt-ltb _ _ (c .if3 .taken))
 
 returns-4 : tie.Need-returns-4
 unfolding runRefusal
-returns-4 c =
-    let a = c .before .before .before .before .before .before .before .before .before .args in
-    let n = c .before .before .before .wanted .ensures in
-    rw (eq-eqb (length (c .before .before .before .before .before .before .before .before .before .args .state .now)) 7326 (c .before .before .before .before .before .before .if1 .left), ← c .before .before .before .before .before .is-refused .ensures, c .before .before .before .before .if2 .left, ← n, le-ltb (a .room) (19 * c .before .before .before .wanted .result) (c .before .before .if3 .left), ← c .before .are-fit .ensures, c .if4 .taken)
+returns-4 c = rw (eq-eqb _ _ (c .before .before .before .before .before .before .if1 .left), ← c .before .before .before .before .before .is-refused .ensures, c .before .before .before .before .if2 .left, ← c .before .before .before .wanted .ensures, le-ltb _ _ (c .before .before .if3 .left), ← c .before .are-fit .ensures, c .if4 .taken)
 
 returns-5 : tie.Need-returns-5
 unfolding runRefusal
-returns-5 c =
-    let a = c .before .before .before .before .before .before .before .before .before .args in
-    let n = c .before .before .before .wanted .ensures in
-    rw (eq-eqb (length (c .before .before .before .before .before .before .before .before .before .args .state .now)) 7326 (c .before .before .before .before .before .before .if1 .left), ← c .before .before .before .before .before .is-refused .ensures, c .before .before .before .before .if2 .left, ← n, le-ltb (a .room) (19 * c .before .before .before .wanted .result) (c .before .before .if3 .left), ← c .before .are-fit .ensures, c .if4 .left)
+returns-5 c = rw (eq-eqb _ _ (c .before .before .before .before .before .before .if1 .left), ← c .before .before .before .before .before .is-refused .ensures, c .before .before .before .before .if2 .left, ← c .before .before .before .wanted .ensures, le-ltb _ _ (c .before .before .if3 .left), ← c .before .are-fit .ensures, c .if4 .left)
 
 pub run-refusal-spec : {M : Type 1} → statement M
 unfolding runRefusal
 run-refusal-spec =
     tie.close
     (tie.spec
-    (λ c. rw (ne-eqb (length (c .before .before .before .args .state .now)) 7326 (c .if1 .taken))) (λ c. search needs)
+    (λ c. rw (ne-eqb _ _ (c .if1 .taken))) (λ c. search needs)
     returns-2 (λ c. search needs) (λ c. search needs) (λ c. search needs) returns-3
     (λ c. search needs) returns-4 returns-5)
