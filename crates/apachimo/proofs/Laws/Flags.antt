@@ -33,4 +33,5 @@ module _ (b : List ℕ) (p : ℕ → Bool) (n : ℕ) where
 pub both : (x y v w : Bool) → x ≡ v → y ≡ w → x && y ≡ v && w
 both x y v w e f = λ j. e j && f j
 
+-- what proves each need of a loop that tests a table: `search tests`
 pub ruleset tests = (needs, tested-none, tested-more, tested-all, both)

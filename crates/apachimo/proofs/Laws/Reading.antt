@@ -67,6 +67,7 @@ module _ {A : Type 0} (read : List ℕ → A) (size n : ℕ) (b : List ℕ) wher
       let d = length-drop (size * i) b in
       length-take-le (size * i + size - size * i) (drop (size * i) b) (omega arith) ∙ (let z : size * i + size - size * i ≡ size = omega arith in z)
 
+-- what proves each need of a loop that reads a table: `search reads`
 pub ruleset reads = (needs, read-none, read-more, read-all, record-size)
 
 -- ---- bytes that are copied one by one
@@ -95,4 +96,5 @@ module _ (n : ℕ) (b l : List ℕ) where
   pub copied-all : (i : ℕ) → Copied n b l i → n ≤ i → l ≡ b
   copied-all i r h = sym (take-all i l (omega arith)) ∙ r .front ∙ take-all i b (omega arith)
 
+-- the same for a loop that copies bytes
 pub ruleset copies = (needs, copied-none, copied-more, copied-all)

@@ -67,6 +67,7 @@ same-next x v ys ws e f = λ j. e j ∷ f j
 pub room : (size : ℕ) (b : List ℕ) (m : ℕ) → length b ≡ size → m ≤ size → m ≤ length b
 room size b m h k = omega arith
 
+-- what finds the bytes and the length of a written block; beside it stand `room` with the block's length, and what the calls ensure
 pub ruleset fills = (last-part, part-before, byte-before, same-join, same-next, kept-part, length-front, set-long, lit≤, tt)
 
 -- ---- the same from the front on: the first n bytes of b, and with any rest f of it
@@ -146,4 +147,5 @@ module _ {A : Type 0} (write : A → List ℕ) (size n : ℕ) (xs : List A) (b :
       let d = length-drop (size * i) b in
       length-take-le (size * i + size - size * i) (drop (size * i) b) (omega arith) ∙ (let z : size * i + size - size * i ≡ size = omega arith in z)
 
+-- what proves each need of a loop that writes a table: `search puts`
 pub ruleset puts = (needs, length-mapped, put-none, put-more, put-all, put-size)

@@ -12,16 +12,6 @@ use Rattle.kernel.specs.Runs.{replyOf}
 use Rattle.apachimo.proofs.apachimo_call.Statement.{statement}
 use Rattle.apachimo.proofs.apachimo_call.Tie as tie
 
-returns : tie.Need-returns
-unfolding callReply callBlock
-returns c = rw (← c .before .before .block-refusal .ensures, ne-eqb (c .before .before .block-refusal .result) 0 (c .before .if1 .taken)) (c .no-reply .ensures, refl)
-
-kernel-of-requires : tie.Need-kernel-of-requires
-kernel-of-requires c κs = block-sized _ (sym (c .before .before .block-refusal .ensures) ∙ c .before .if1 .left)
-
-put-answer-requires : tie.Need-put-answer-requires
-put-answer-requires c κs = block-sized _ (sym (c .before .before .before .before .before .before .before .before .before .before .block-refusal .ensures) ∙ c .before .before .before .before .before .before .before .before .before .if1 .left)
-
 returns-2 : tie.Need-returns-2
 unfolding callReply callBlock replyOf
 returns-2 c =
@@ -39,9 +29,13 @@ returns-3 c =
     rw (← c .before .before .before .before .before .before .before .before .before .block-refusal .ensures, eq-eqb (c .before .before .before .before .before .before .before .before .before .block-refusal .result) 0 (c .before .before .before .before .before .before .before .before .if1 .left), t) (ap replyOf e, refl)
 
 pub apachimo-call-spec : {M : Type 1} → statement M
+unfolding callReply callBlock
 apachimo-call-spec =
     tie.close
     (tie.spec
-    (λ c. search needs) (λ c. search needs) (λ c. search needs) returns kernel-of-requires
-    (λ c. search needs) (λ c. search needs) (λ c. search needs) put-answer-requires (λ c. search needs)
-    returns-2 (λ c. search needs) returns-3)
+    (λ c. search needs) (λ c. search needs) (λ c. search needs)
+    (λ c. rw (← c .before .before .block-refusal .ensures, ne-eqb (c .before .before .block-refusal .result) 0 (c .before .if1 .taken)) (c .no-reply .ensures, refl))
+    (λ c κs. block-sized _ (sym (c .before .before .block-refusal .ensures) ∙ c .before .if1 .left))
+    (λ c. search needs) (λ c. search needs) (λ c. search needs)
+    (λ c κs. block-sized _ (sym (c .before .before .before .before .before .before .before .before .before .before .block-refusal .ensures) ∙ c .before .before .before .before .before .before .before .before .before .if1 .left))
+    (λ c. search needs) returns-2 (λ c. search needs) returns-3)

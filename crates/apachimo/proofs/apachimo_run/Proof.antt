@@ -17,16 +17,6 @@ returns c =
     let q = sym (c .before .before .run-refusal .ensures) ∙ c .before .if1 .taken in
     rw q ((λ j. record { status = c .before .if1 .taken j; carried = c .wanted .ensures j }), (refl, refl))
 
-returns-2 : tie.Need-returns-2
-unfolding runResult runBlock runReplies
-returns-2 c = rw (← c .before .before .run-refusal .ensures, ne-eqb (c .before .before .run-refusal .result) 0 (c .if2 .taken), ne-eqb (c .before .before .run-refusal .result) 256 (c .before .if1 .left)) (refl, (refl, refl))
-
-kernel-of-requires : tie.Need-kernel-of-requires
-kernel-of-requires c κs = run-sized _ _ _ _ (sym (c .before .before .before .run-refusal .ensures) ∙ c .before .if2 .left)
-
-put-kernel-requires : tie.Need-put-kernel-requires
-put-kernel-requires c κs = run-sized _ _ _ _ (sym (c .before .before .before .before .before .before .before .before .before .before .before .before .run-refusal .ensures) ∙ c .before .before .before .before .before .before .before .before .before .before .if2 .left)
-
 returns-3 : tie.Need-returns-3
 unfolding runResult runBlock runReplies
 returns-3 c =
@@ -48,9 +38,14 @@ returns-4 c =
     rw (z, t) ((λ j. record { status = e j .status; carried = e j .carried }), (refl, o))
 
 pub apachimo-run-spec : {M : Type 1} → statement M
+unfolding runResult runBlock runReplies
 apachimo-run-spec =
     tie.close
     (tie.spec
     (λ c. search needs) (λ c. search needs) (λ c. search needs) returns (λ c. search needs)
-    returns-2 kernel-of-requires (λ c. search needs) put-kernel-requires (λ c. search needs)
-    (λ c. search needs) returns-3 (λ c. search needs) (λ c. search needs) returns-4)
+    (λ c. rw (← c .before .before .run-refusal .ensures, ne-eqb (c .before .before .run-refusal .result) 0 (c .if2 .taken), ne-eqb (c .before .before .run-refusal .result) 256 (c .before .if1 .left)) (refl, (refl, refl)))
+    (λ c κs. run-sized _ _ _ _ (sym (c .before .before .before .run-refusal .ensures) ∙ c .before .if2 .left))
+    (λ c. search needs)
+    (λ c κs. run-sized _ _ _ _ (sym (c .before .before .before .before .before .before .before .before .before .before .before .before .run-refusal .ensures) ∙ c .before .before .before .before .before .before .before .before .before .before .if2 .left))
+    (λ c. search needs) (λ c. search needs) returns-3 (λ c. search needs) (λ c. search needs)
+    returns-4)

@@ -6,14 +6,11 @@ use Rattle.apachimo.specs.Library.{startStatus, startBlock}
 use Rattle.apachimo.proofs.apachimo_start.Statement.{statement}
 use Rattle.apachimo.proofs.apachimo_start.Tie as tie
 
-returns-2 : tie.Need-returns-2
-unfolding startStatus startBlock
-returns-2 c = rw (eq-eqb _ _ (c .before .before .before .before .before .if1 .left)) (refl, c .before .before .put-kernel .ensures ∙ ap bytesOf (c .before .before .before .start .ensures))
-
 pub apachimo-start-spec : {M : Type 1} → statement M
 unfolding startStatus startBlock
 apachimo-start-spec =
     tie.close
     (tie.spec
-    (λ c. rw (ne-eqb _ _ (c .if1 .taken)) (refl, refl)) (λ c. search needs)
-    (λ c. search needs) (λ c. search needs) returns-2)
+    (λ c. rw (ne-eqb _ _ (c .if1 .taken)) (refl, refl)) (λ c. search needs) (λ c. search needs)
+    (λ c. search needs)
+    (λ c. rw (eq-eqb _ _ (c .before .before .before .before .before .if1 .left)) (refl, c .before .before .put-kernel .ensures ∙ ap bytesOf (c .before .before .before .start .ensures))))

@@ -4,18 +4,11 @@ use Rattle.apachimo.specs.Library.{blockRefusal}
 use Rattle.apachimo.proofs.block_refusal.Statement.{statement}
 use Rattle.apachimo.proofs.block_refusal.Tie as tie
 
-returns-2 : tie.Need-returns-2
-unfolding blockRefusal
-returns-2 c = rw (eq-eqb _ _ (c .before .before .if1 .left), ← c .before .are-fit .ensures, c .if2 .taken)
-
-returns-3 : tie.Need-returns-3
-unfolding blockRefusal
-returns-3 c = rw (eq-eqb _ _ (c .before .before .if1 .left), ← c .before .are-fit .ensures, c .if2 .left)
-
 pub block-refusal-spec : {M : Type 1} → statement M
 unfolding blockRefusal
 block-refusal-spec =
     tie.close
     (tie.spec
     (λ c. rw (ne-eqb _ _ (c .if1 .taken))) (λ c. search needs)
-    returns-2 returns-3)
+    (λ c. rw (eq-eqb _ _ (c .before .before .if1 .left), ← c .before .are-fit .ensures, c .if2 .taken))
+    (λ c. rw (eq-eqb _ _ (c .before .before .if1 .left), ← c .before .are-fit .ensures, c .if2 .left)))

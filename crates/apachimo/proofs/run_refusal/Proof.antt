@@ -4,27 +4,15 @@ use Rattle.apachimo.specs.Library.{runRefusal}
 use Rattle.apachimo.proofs.run_refusal.Statement.{statement}
 use Rattle.apachimo.proofs.run_refusal.Tie as tie
 
-returns-2 : tie.Need-returns-2
-unfolding runRefusal
-returns-2 c = rw (eq-eqb _ _ (c .before .before .if1 .left), ← c .before .is-refused .ensures, c .if2 .taken)
-
-returns-3 : tie.Need-returns-3
-unfolding runRefusal
-returns-3 c = rw (eq-eqb _ _ (c .before .before .before .before .if1 .left), ← c .before .before .before .is-refused .ensures, c .before .before .if2 .left, ← c .before .wanted .ensures, lt-ltb _ _ (c .if3 .taken))
-
-returns-4 : tie.Need-returns-4
-unfolding runRefusal
-returns-4 c = rw (eq-eqb _ _ (c .before .before .before .before .before .before .if1 .left), ← c .before .before .before .before .before .is-refused .ensures, c .before .before .before .before .if2 .left, ← c .before .before .before .wanted .ensures, le-ltb _ _ (c .before .before .if3 .left), ← c .before .are-fit .ensures, c .if4 .taken)
-
-returns-5 : tie.Need-returns-5
-unfolding runRefusal
-returns-5 c = rw (eq-eqb _ _ (c .before .before .before .before .before .before .if1 .left), ← c .before .before .before .before .before .is-refused .ensures, c .before .before .before .before .if2 .left, ← c .before .before .before .wanted .ensures, le-ltb _ _ (c .before .before .if3 .left), ← c .before .are-fit .ensures, c .if4 .left)
-
 pub run-refusal-spec : {M : Type 1} → statement M
 unfolding runRefusal
 run-refusal-spec =
     tie.close
     (tie.spec
     (λ c. rw (ne-eqb _ _ (c .if1 .taken))) (λ c. search needs)
-    returns-2 (λ c. search needs) (λ c. search needs) (λ c. search needs) returns-3
-    (λ c. search needs) returns-4 returns-5)
+    (λ c. rw (eq-eqb _ _ (c .before .before .if1 .left), ← c .before .is-refused .ensures, c .if2 .taken))
+    (λ c. search needs) (λ c. search needs) (λ c. search needs)
+    (λ c. rw (eq-eqb _ _ (c .before .before .before .before .if1 .left), ← c .before .before .before .is-refused .ensures, c .before .before .if2 .left, ← c .before .wanted .ensures, lt-ltb _ _ (c .if3 .taken)))
+    (λ c. search needs)
+    (λ c. rw (eq-eqb _ _ (c .before .before .before .before .before .before .if1 .left), ← c .before .before .before .before .before .is-refused .ensures, c .before .before .before .before .if2 .left, ← c .before .before .before .wanted .ensures, le-ltb _ _ (c .before .before .if3 .left), ← c .before .are-fit .ensures, c .if4 .taken))
+    (λ c. rw (eq-eqb _ _ (c .before .before .before .before .before .before .if1 .left), ← c .before .before .before .before .before .is-refused .ensures, c .before .before .before .before .if2 .left, ← c .before .before .before .wanted .ensures, le-ltb _ _ (c .before .before .if3 .left), ← c .before .are-fit .ensures, c .if4 .left)))

@@ -4,15 +4,13 @@ use Rattle.apachimo.specs.State.{heldOf}
 use Rattle.apachimo.proofs.reading.held_of.Statement.{statement}
 use Rattle.apachimo.proofs.reading.held_of.Tie as tie
 
-returns : tie.Need-returns
-unfolding heldOf part
-returns c = rw (c .before .before .before .before .before .before .before .before .before .word-of .ensures, c .before .before .before .before .before .before .before .words-of .ensures, c .before .before .before .before .before .word-of2 .ensures, c .before .before .before .words-of2 .ensures)
-
 pub held-of-spec : {M : Type 1} → statement M
+unfolding heldOf part
 held-of-spec =
     tie.close
     (tie.spec
     (λ c. search needs) (λ c. search needs) (λ c. search needs) (λ c. search needs) (λ c. search needs)
     (λ c. search needs) (λ c. search needs) (λ c. search needs) (λ c. search needs) (λ c. search needs)
     (λ c. search needs) (λ c. search needs) (λ c. search needs) (λ c. search needs) (λ c. search needs)
-    (λ c. search needs) (λ c. search needs) (λ c. search needs) (λ c. search needs) returns)
+    (λ c. search needs) (λ c. search needs) (λ c. search needs) (λ c. search needs)
+    (λ c. rw (c .before .before .before .before .before .before .before .before .before .word-of .ensures, c .before .before .before .before .before .before .before .words-of .ensures, c .before .before .before .before .before .word-of2 .ensures, c .before .before .before .words-of2 .ensures)))

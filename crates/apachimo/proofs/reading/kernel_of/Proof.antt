@@ -5,14 +5,8 @@ use Rattle.apachimo.specs.State.{kernelOf}
 use Rattle.apachimo.proofs.reading.kernel_of.Statement.{statement}
 use Rattle.apachimo.proofs.reading.kernel_of.Tie as tie
 
-part-word-of-end : tie.Need-part-word-of-end
-part-word-of-end c = omega (arith, c .before .before .before .before .before .before .before .before .before .before .before .before .before .pre)
-
-returns : tie.Need-returns
-unfolding kernelOf part
-returns c = rw (c .before .before .before .before .before .before .before .before .before .before .before .before .scheduler-of .ensures, c .before .before .before .before .before .before .before .before .before .before .all-held-of .ensures, c .before .before .before .before .before .before .before .before .semaphores-of .ensures, c .before .before .before .before .before .before .queues-of .ensures, c .before .before .before .before .groups-of .ensures, c .before .before .pools-of .ensures, c .word-of .ensures)
-
 pub kernel-of-spec : {M : Type 1} → statement M
+unfolding kernelOf part
 kernel-of-spec =
     tie.close
     (tie.spec
@@ -21,4 +15,7 @@ kernel-of-spec =
     (λ c. search needs) (λ c. search needs) (λ c. search needs) (λ c. search needs) (λ c. search needs)
     (λ c. search needs) (λ c. search needs) (λ c. search needs) (λ c. search needs) (λ c. search needs)
     (λ c. search needs) (λ c. search needs) (λ c. search needs) (λ c. search needs) (λ c. search needs)
-    (λ c. search needs) part-word-of-end (λ c. search needs) returns)
+    (λ c. search needs)
+    (λ c. omega (arith, c .before .before .before .before .before .before .before .before .before .before .before .before .before .pre))
+    (λ c. search needs)
+    (λ c. rw (c .before .before .before .before .before .before .before .before .before .before .before .before .scheduler-of .ensures, c .before .before .before .before .before .before .before .before .before .before .all-held-of .ensures, c .before .before .before .before .before .before .before .before .semaphores-of .ensures, c .before .before .before .before .before .before .queues-of .ensures, c .before .before .before .before .groups-of .ensures, c .before .before .pools-of .ensures, c .word-of .ensures)))

@@ -4,14 +4,12 @@ use Rattle.apachimo.specs.State.{poolOf}
 use Rattle.apachimo.proofs.reading.pool_of.Statement.{statement}
 use Rattle.apachimo.proofs.reading.pool_of.Tie as tie
 
-returns : tie.Need-returns
-unfolding poolOf part
-returns c = rw (c .before .before .before .before .before .before .before .word-of .ensures, c .before .before .before .before .before .list-of .ensures, c .before .half .ensures)
-
 pub pool-of-spec : {M : Type 1} → statement M
+unfolding poolOf part
 pool-of-spec =
     tie.close
     (tie.spec
     (λ c. search needs) (λ c. search needs) (λ c. search needs) (λ c. search needs) (λ c. search needs)
     (λ c. search needs) (λ c. search needs) (λ c. search needs) (λ c. search needs) (λ c. search needs)
-    (λ c. search needs) (λ c. search needs) (λ c. search needs) returns)
+    (λ c. search needs) (λ c. search needs) (λ c. search needs)
+    (λ c. rw (c .before .before .before .before .before .before .before .word-of .ensures, c .before .before .before .before .before .list-of .ensures, c .before .half .ensures)))

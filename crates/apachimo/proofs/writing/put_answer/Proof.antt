@@ -6,9 +6,6 @@ use Rattle.apachimo.proofs.Laws.Writing.{none-done, part-done, last-don
 use Rattle.apachimo.proofs.writing.put_answer.Statement.{statement}
 use Rattle.apachimo.proofs.writing.put_answer.Tie as tie
 
-same-length : tie.Need-same-length
-same-length c = c .before .b3 .given .1 ∙ c .before .before .before .before .before .b2 .given .1 ∙ c .before .before .before .before .before .before .before .before .before .b .given .1
-
 returns : tie.Need-returns
 unfolding bytesOf
 returns c =
@@ -22,4 +19,6 @@ put-answer-spec =
     (tie.spec
     (λ c. search needs) (λ c. search needs) (λ c. search needs) (λ c. search needs) (λ c. search needs)
     (λ c. search needs) (λ c. search needs) (λ c. search needs) (λ c. search needs) (λ c. search needs)
-    (λ c. search needs) (λ c. search needs) same-length returns)
+    (λ c. search needs) (λ c. search needs)
+    (λ c. c .before .b3 .given .1 ∙ c .before .before .before .before .before .b2 .given .1 ∙ c .before .before .before .before .before .before .before .before .before .b .given .1)
+    returns)

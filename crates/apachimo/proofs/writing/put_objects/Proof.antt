@@ -6,12 +6,6 @@ use Rattle.apachimo.proofs.Laws.Writing.{none-done, part-done, last-don
 use Rattle.apachimo.proofs.writing.put_objects.Statement.{statement}
 use Rattle.apachimo.proofs.writing.put_objects.Tie as tie
 
-part-put-word-end : tie.Need-part-put-word-end
-part-put-word-end c = let k = c .before .b4 .given .1 ∙ c .before .before .before .before .before .b3 .given .1 ∙ c .before .before .before .before .before .before .before .before .before .b2 .given .1 ∙ c .before .before .before .before .before .before .before .before .before .before .before .before .before .b .given .1 ∙ c .before .before .before .before .before .before .before .before .before .before .before .before .before .before .before .before .before .pre in omega (arith, k)
-
-same-length : tie.Need-same-length
-same-length c = c .before .b5 .given .1 ∙ c .before .before .before .before .before .b4 .given .1 ∙ c .before .before .before .before .before .before .before .before .before .b3 .given .1 ∙ c .before .before .before .before .before .before .before .before .before .before .before .before .before .b2 .given .1 ∙ c .before .before .before .before .before .before .before .before .before .before .before .before .before .before .before .before .before .b .given .1
-
 returns : tie.Need-returns
 unfolding objectBytes
 returns c =
@@ -28,5 +22,8 @@ put-objects-spec =
     (λ c. search needs) (λ c. search needs) (λ c. search needs) (λ c. search needs) (λ c. search needs)
     (λ c. search needs) (λ c. search needs) (λ c. search needs) (λ c. search needs) (λ c. search needs)
     (λ c. search needs) (λ c. search needs) (λ c. search needs) (λ c. search needs) (λ c. search needs)
-    (λ c. search needs) (λ c. search needs) (λ c. search needs) part-put-word-end (λ c. search needs)
-    same-length returns)
+    (λ c. search needs) (λ c. search needs) (λ c. search needs)
+    (λ c. let k = c .before .b4 .given .1 ∙ c .before .before .before .before .before .b3 .given .1 ∙ c .before .before .before .before .before .before .before .before .before .b2 .given .1 ∙ c .before .before .before .before .before .before .before .before .before .before .before .before .before .b .given .1 ∙ c .before .before .before .before .before .before .before .before .before .before .before .before .before .before .before .before .before .pre in omega (arith, k))
+    (λ c. search needs)
+    (λ c. c .before .b5 .given .1 ∙ c .before .before .before .before .before .b4 .given .1 ∙ c .before .before .before .before .before .before .before .before .before .b3 .given .1 ∙ c .before .before .before .before .before .before .before .before .before .before .before .before .before .b2 .given .1 ∙ c .before .before .before .before .before .before .before .before .before .before .before .before .before .before .before .before .before .b .given .1)
+    returns)
