@@ -12,9 +12,20 @@ use Rattle.lines.specs.Lists.{numbersFrom}
 use Rattle.apachimo.specs.Blocks.{part, tableOf}
 
 -- a range of a block is the part that it says
-pub part-range : (b : List ℕ) (p n : ℕ) → take (p + n - p) (drop p b) ≡ part p n b
+part-range : (b : List ℕ) (p n : ℕ) → take (p + n - p) (drop p b) ≡ part p n b
 unfolding part
 part-range b p n = ap (λ (k : ℕ). take k (drop p b)) (let r : p + n - p ≡ n = omega arith in r)
+
+-- record i of n records of `size` bytes ends within the block, and its range has its size
+module _ (b : List ℕ) (size n i : ℕ) (h : i < n) (k : length b ≡ size * n) where
+  pub record-end : size * i + size ≤ length b
+  record-end = let m = mul-le-mul-left size h in let e = mul-suc size i in omega arith
+
+  pub range-size : length (take (size * i + size - size * i) (drop (size * i) b)) ≡ size
+  range-size =
+      let e = record-end in
+      let d = length-drop (size * i) b in
+      length-take-le (size * i + size - size * i) (drop (size * i) b) (omega arith) ∙ (let z : size * i + size - size * i ≡ size = omega arith in z)
 
 -- the first i of n records of `size` bytes are read into the table l
 pub record Read {A : Type 0} (read : List ℕ → A) (size n : ℕ) (b : List ℕ) (l : List A) (i : ℕ) : Type 0 where
@@ -57,15 +68,9 @@ module _ {A : Type 0} (read : List ℕ → A) (size n : ℕ) (b : List ℕ) wher
       let q : i ≡ n = omega arith in
       sym (take-all i l (omega arith)) ∙ r .front ∙ ap (λ (k : ℕ). tableOf read size k b) q
 
-  record-end : (i : ℕ) → i < n → length b ≡ size * n → size * i + size ≤ length b
-  record-end i h k = let m = mul-le-mul-left size h in let e = mul-suc size i in omega arith
-
   -- the record that is read has its size
   pub record-size : (l : List A) (i : ℕ) → Read read size n b l i → i < n → length (take (size * i + size - size * i) (drop (size * i) b)) ≡ size
-  record-size l i r h =
-      let e = record-end i h (r .whole) in
-      let d = length-drop (size * i) b in
-      length-take-le (size * i + size - size * i) (drop (size * i) b) (omega arith) ∙ (let z : size * i + size - size * i ≡ size = omega arith in z)
+  record-size l i r h = range-size b size n i h (r .whole)
 
 -- what proves each need of a loop that reads a table: `search reads`
 pub ruleset reads = (needs, read-none, read-more, read-all, record-size)

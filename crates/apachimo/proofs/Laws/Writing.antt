@@ -4,13 +4,14 @@ use mathlib.Core.List.{List, [], _∷_, _++_, append-assoc, append-nil}
 use Prim.Native.Nat.{ℕ, suc, _+_, _-_, _*_, _≤_, _<_}
 use native.Mathlib.Omega.{arith}
 use native.Mathlib.Numerals.{add-one}
-use native.Mathlib.Nat.{mul-suc, mul-le-mul-left}
+use native.Mathlib.Nat.{mul-suc}
 use lib.Dec.{lit≤}
 use lib.ListN.{length, take, drop, getD, set, length-append, length-set, length-drop, take-append-drop}
 use lib.Seq.{take-all, take-at, take-suc, take-suc-set, drop-length, length-take-le, length-front, sets, sets-eq}
 use borrow.Author.Needs.{needs, set-long}
 use Rattle.scheduler.proofs.Laws.Threads.{length-mapped}
 use Rattle.apachimo.specs.Blocks.{allBytes}
+use Rattle.apachimo.proofs.Laws.Reading.{record-end, range-size}
 
 -- a block whose bytes are all stored, one by one
 pub stored : (b vs : List ℕ) → length b ≡ length vs → sets b 0 vs ≡ vs
@@ -109,9 +110,6 @@ module _ {A : Type 0} (write : A → List ℕ) (size n : ℕ) (xs : List A) (b :
   all-last [] x = append-nil (write x)
   all-last (y ∷ ys) x = ap (λ (r : List ℕ). write y ++ r) (all-last ys x) ∙ sym (append-assoc (write y) (allBytes write ys) (write x))
 
-  record-end : (i : ℕ) → i < n → size * i + size ≤ size * n
-  record-end i h = let m = mul-le-mul-left size h in let e = mul-suc size i in omega arith
-
   pub put-none : length xs ≡ n → length b ≡ size * n → Put write size n xs b 0
   unfolding allBytes
   put-none h k = record { within = omega arith; many = h; whole = k; front = ap (λ (m : ℕ). take m b) (let z : size * 0 ≡ 0 = omega arith in z) }
@@ -121,7 +119,7 @@ module _ {A : Type 0} (write : A → List ℕ) (size n : ℕ) (xs : List A) (b :
       → length ys ≡ length (take (size * i + size - size * i) (drop (size * i) b))
       → Put write size n xs (take (size * i) b ++ (ys ++ drop (size * i + size - size * i) (drop (size * i) b))) (i + 1)
   put-more ys i d r h v q =
-      let e = record-end i h in
+      let e = record-end b size n i h (r .whole) in
       let m = mul-suc size i in
       record {
         within = omega arith;
@@ -142,10 +140,7 @@ module _ {A : Type 0} (write : A → List ℕ) (size n : ℕ) (xs : List A) (b :
 
   -- the part that a record is written to has its size
   pub put-size : (i : ℕ) → Put write size n xs b i → i < n → length (take (size * i + size - size * i) (drop (size * i) b)) ≡ size
-  put-size i r h =
-      let e = record-end i h in
-      let d = length-drop (size * i) b in
-      length-take-le (size * i + size - size * i) (drop (size * i) b) (omega arith) ∙ (let z : size * i + size - size * i ≡ size = omega arith in z)
+  put-size i r h = range-size b size n i h (r .whole)
 
 -- what proves each need of a loop that writes a table: `search puts`
 pub ruleset puts = (needs, length-mapped, put-none, put-more, put-all, put-size)
