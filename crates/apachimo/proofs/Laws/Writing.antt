@@ -71,11 +71,12 @@ room size b m h k = omega arith
 -- what finds the bytes and the length of a written block; beside it stand `room` with the block's length, and what the calls ensure
 pub ruleset fills = (last-part, part-before, byte-before, same-join, same-next, kept-part, length-front, set-long, lit≤, tt)
 
--- ---- the same from the front on: the first n bytes of b, and with any rest f of it
+-- ---- the same from the front on, for blocks of many parts: the first n bytes of b with any rest behind them are f of that rest
 pub record Done (f : List ℕ → List ℕ) (size : ℕ) (b : List ℕ) (n : ℕ) : Type 0 where
   pub long : length b ≡ size
   pub front : (rest : List ℕ) → take n b ++ rest ≡ f rest
 
+-- nothing yet
 pub none-done : {size : ℕ} (b : List ℕ) → length b ≡ size → Done (λ (r : List ℕ). r) size b 0
 none-done b h = record { long = h; front = λ rest. refl }
 
