@@ -11,5 +11,6 @@ pub mod KeepsQueues
 pub mod KeepsGroups
 pub mod KeepsPools
 pub mod Claims
+pub mod Arms
 pub mod Records
 pub mod Runs
