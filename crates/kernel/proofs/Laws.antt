@@ -11,6 +11,7 @@ pub mod KeepsQueues
 pub mod KeepsGroups
 pub mod KeepsPools
 pub mod Claims
+pub mod Reads
 pub mod Arms
 pub mod Records
 pub mod Runs
