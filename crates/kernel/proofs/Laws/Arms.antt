@@ -1,10 +1,9 @@
 -- Laws of the general call: its answer, by what is found before the service.
-use mathlib.Core.Path.{_≡_, sym, ap, _∙_}
+use mathlib.Core.Path.{_≡_}
 use mathlib.Core.List.{List}
 use mathlib.Core.Bool.{Bool, true, false, not}
 use Prim.Native.Nat.{ℕ}
 use borrow.Author.Tests.{not-true, not-false}
-use Rattle.lines.specs.Logic.{if_then_else_}
 use Rattle.calls.specs.Calls.{decoded}
 use Rattle.calls.specs.Statuses as Statuses
 use Rattle.calls.specs.declared.call.Call.{Call}

@@ -1,11 +1,12 @@
-use mathlib.Core.Path.{_≡_, refl, sym, ap, ap₂, _∙_}
-use Prim.Native.Nat.{_≤_, _+_, _-_}
+use mathlib.Core.Path.{_≡_, refl, sym, ap₂, _∙_}
+use mathlib.Core.Bool.{Bool, true, _&&_}
+use Prim.Native.Nat.{ℕ, _≤_, _+_, _-_}
 use native.Mathlib.Omega.{arith}
 use borrow.Author.Needs.{needs}
 use borrow.Author.Tests.{eq-eqb}
-use lib.ListN.{length}
+use lib.ListN.{length, getD}
 use Rattle.lines.specs.Logic.{allBelow}
-use Rattle.lines.proofs.Laws.Lists.{getD-any}
+use Rattle.scheduler.specs.declared.thread.Thread.{Thread}
 use Rattle.scheduler.specs.Threads.{noThread}
 use Rattle.scheduler.specs.Orders.{threadAt}
 use Rattle.scheduler.proofs.Laws.Threads.{length-mapped}
@@ -14,16 +15,27 @@ use Rattle.objects.specs.Queues.{noQueue, emptyb, queueFitb}
 use Rattle.objects.specs.Groups.{noGroup}
 use Rattle.blocks.specs.Pools.{noPool, poolFitb}
 use Rattle.blocks.proofs.Laws.Pools
+use Rattle.calls.specs.declared.held.Held.{Held}
 use Rattle.calls.specs.Held.{noHeld}
 use Rattle.waiting.specs.Fit.{heldFitb, queuesFitb, poolsFitb}
+use Rattle.kernel.specs.declared.Kernel.{Kernel}
 use Rattle.kernel.specs.Tables.{threadOf, heldAt, semaphoreAt, queueAt, groupAt, poolAt}
 use Rattle.kernel.specs.Sound.{waitFitb, soundb}
-use Rattle.kernel.proofs.Laws.Sound.{waits-none, waits-rest, waits-queue, waits-semaphore, waits-group, waits-pool, past-queues, past-semaphores, past-groups, past-pools, inside, outside, one-more, none-more, past-more, and-rest, resting-read, unheld-read}
+use Rattle.kernel.proofs.Laws.Reads.{read-inside, test-more}
+use Rattle.kernel.proofs.Laws.Sound.{waits-none, waits-rest, waits-queue, waits-semaphore, waits-group, waits-pool, past-queues, past-semaphores, past-groups, past-pools, outside, one-more, none-more, past-more, and-rest, resting-read, unheld-read}
 use Rattle.kernel.proofs.Kernel.is_sound.Statement.{statement}
 use Rattle.kernel.proofs.Kernel.is_sound.Tie as tie
 
+-- what a thread holds fits it
+abbrev heldTest : Kernel → ℕ → Bool
+heldTest k t = heldFitb (threadOf k t) (heldAt k t)
+
+-- the threads below t are tested
+abbrev Tested : Kernel → Bool → Bool → ℕ → Type 0
+Tested k held waits t = (t ≤ 32) × (held ≡ allBelow t (heldTest k)) × (waits ≡ allBelow t (waitFitb k))
+
 abbrev Inv-loop : tie.InvT-loop
-Inv-loop self s scheduler held₀ waits₀ t₀ held waits t = (t ≤ 32) × (length (self .scheduler .threads) ≡ 32) × (length (self .held) ≡ 32) × (length (self .semaphores) ≡ 16) × (length (self .queues) ≡ 8) × (length (self .groups) ≡ 8) × (length (self .pools) ≡ 4) × (held ≡ allBelow t (λ n. heldFitb (threadOf self n) (heldAt self n))) × (waits ≡ allBelow t (waitFitb self))
+Inv-loop self s scheduler held₀ waits₀ t₀ held waits t = Tested self held waits t
 
 abbrev μ-loop : tie.MeasureT-loop
 μ-loop self s scheduler held₀ waits₀ t₀ held waits t = 32 - t
@@ -40,450 +52,60 @@ Inv-loop3 self scheduler held waits t queues q pools₀ p₀ pools p = (p ≤ 4)
 abbrev μ-loop3 : tie.MeasureT-loop3
 μ-loop3 self scheduler held waits t queues q pools₀ p₀ pools p = 4 - p
 
-is-sound-requires : tie.Need-is-sound-requires Inv-loop μ-loop Inv-loop2 μ-loop2 Inv-loop3 μ-loop3
-is-sound-requires c κs = search needs
-
-loop-holds : tie.Need-loop-holds Inv-loop μ-loop Inv-loop2 μ-loop2 Inv-loop3 μ-loop3
-unfolding allBelow
-loop-holds c = (omega arith, search length-mapped, search length-mapped, search length-mapped, search length-mapped, search length-mapped, search length-mapped, refl, refl)
-
-mul-th : tie.Need-mul-th Inv-loop μ-loop Inv-loop2 μ-loop2 Inv-loop3 μ-loop3
-mul-th c = search needs
-
-element-copy-out-th :
-    tie.Need-element-copy-out-th Inv-loop μ-loop Inv-loop2 μ-loop2 Inv-loop3 μ-loop3
-element-copy-out-th c = search needs
-
-cast-n : tie.Need-cast-n Inv-loop μ-loop Inv-loop2 μ-loop2 Inv-loop3 μ-loop3
-cast-n c = search needs
-
-is-paused-requires :
-    tie.Need-is-paused-requires Inv-loop μ-loop Inv-loop2 μ-loop2 Inv-loop3 μ-loop3
-is-paused-requires c κs = search needs
-
-mul-h : tie.Need-mul-h Inv-loop μ-loop Inv-loop2 μ-loop2 Inv-loop3 μ-loop3
-mul-h c = search needs
-
-element-copy-out-h :
-    tie.Need-element-copy-out-h Inv-loop μ-loop Inv-loop2 μ-loop2 Inv-loop3 μ-loop3
-element-copy-out-h c = search needs
-
-paused-fits-requires :
-    tie.Need-paused-fits-requires Inv-loop μ-loop Inv-loop2 μ-loop2 Inv-loop3 μ-loop3
-paused-fits-requires c κs = search needs
-
-add-t : tie.Need-add-t Inv-loop μ-loop Inv-loop2 μ-loop2 Inv-loop3 μ-loop3
-add-t c = search needs
-
-waits-on-requires : tie.Need-waits-on-requires Inv-loop μ-loop Inv-loop2 μ-loop2 Inv-loop3 μ-loop3
-waits-on-requires c κs = search needs
-
-mul-queue-waits : tie.Need-mul-queue-waits Inv-loop μ-loop Inv-loop2 μ-loop2 Inv-loop3 μ-loop3
-mul-queue-waits c = search needs
-
-element-copy-out-queue-waits :
-    tie.Need-element-copy-out-queue-waits Inv-loop μ-loop Inv-loop2 μ-loop2 Inv-loop3 μ-loop3
-element-copy-out-queue-waits c = search needs
-
-queue-waits-requires :
-    tie.Need-queue-waits-requires Inv-loop μ-loop Inv-loop2 μ-loop2 Inv-loop3 μ-loop3
-queue-waits-requires c κs = search needs
-
-loop-less : tie.Need-loop-less Inv-loop μ-loop Inv-loop2 μ-loop2 Inv-loop3 μ-loop3
-loop-less c = search needs
-
-loop-again : tie.Need-loop-again Inv-loop μ-loop Inv-loop2 μ-loop2 Inv-loop3 μ-loop3
-unfolding threadAt heldAt queueAt
-loop-again c =
-    let k = c .before .before .before .before .before .before .before .before .before .before .before .before .before .before .before .args .t1 in
-    let l = c .before .before .before .before .before .before .before .before .before .before .before .before .loop in
-    let i = l .inv in
-    let t = c .before .before .before .before .before .before .before .before .before .before .before .loop-test .taken in
-    let b : l .t + 1 ≤ 32 = omega arith in
-    let e = getD-any (k .scheduler .threads) (l .t) _ noThread (inside t (i .1)) in
-    let d = getD-any (k .held) (l .t) _ noHeld (inside t (i .2)) in
-    let w = one-more (λ n. heldFitb (threadOf k n) (heldAt k n)) (l .t) (l .held) _ (i .7) (and-rest (c .before .before .before .before .before .paused-fits .ensures) (sym (c .before .before .before .before .before .before .before .before .is-paused .ensures) ∙ c .before .before .before .before .before .before .before .if1 .taken) ∙ ap₂ heldFitb e d) in
-    let q = getD-any (k .queues) _ _ noQueue (inside (c .before .before .if3 .taken) (i .4)) in
-    (b, i .1, i .2, i .3, i .4, i .5, i .6, w, one-more (waitFitb k) (l .t) (l .waits) _ (i .8) (c .queue-waits .ensures ∙ waits-queue k (l .t) _ e _ _ d q (sym (c .before .before .before .before .waits-on .ensures) ∙ c .before .before .before .if2 .taken)))
-
-loop-less-2 : tie.Need-loop-less-2 Inv-loop μ-loop Inv-loop2 μ-loop2 Inv-loop3 μ-loop3
-loop-less-2 c = search needs
-
-loop-again-2 : tie.Need-loop-again-2 Inv-loop μ-loop Inv-loop2 μ-loop2 Inv-loop3 μ-loop3
-unfolding threadAt heldAt
-loop-again-2 c =
-    let k = c .before .before .before .before .before .before .before .before .before .before .before .before .before .args .t1 in
-    let l = c .before .before .before .before .before .before .before .before .before .before .loop in
-    let i = l .inv in
-    let t = c .before .before .before .before .before .before .before .before .before .loop-test .taken in
-    let b : l .t + 1 ≤ 32 = omega arith in
-    let e = getD-any (k .scheduler .threads) (l .t) _ noThread (inside t (i .1)) in
-    let d = getD-any (k .held) (l .t) _ noHeld (inside t (i .2)) in
-    let w = one-more (λ n. heldFitb (threadOf k n) (heldAt k n)) (l .t) (l .held) _ (i .7) (and-rest (c .before .before .before .paused-fits .ensures) (sym (c .before .before .before .before .before .before .is-paused .ensures) ∙ c .before .before .before .before .before .if1 .taken) ∙ ap₂ heldFitb e d) in
-    (b, i .1, i .2, i .3, i .4, i .5, i .6, w, past-more (waitFitb k) (l .t) (past-queues k (l .t) _ e (outside (c .if3 .left) (i .4)) (sym (c .before .before .waits-on .ensures) ∙ c .before .if2 .taken)))
-
-waits-on-requires-2 :
-    tie.Need-waits-on-requires-2 Inv-loop μ-loop Inv-loop2 μ-loop2 Inv-loop3 μ-loop3
-waits-on-requires-2 c κs = search needs
-
-mul-semaphore-waits :
-    tie.Need-mul-semaphore-waits Inv-loop μ-loop Inv-loop2 μ-loop2 Inv-loop3 μ-loop3
-mul-semaphore-waits c = search needs
-
-element-copy-out-semaphore-waits :
-    tie.Need-element-copy-out-semaphore-waits Inv-loop μ-loop Inv-loop2 μ-loop2 Inv-loop3 μ-loop3
-element-copy-out-semaphore-waits c = search needs
-
-semaphore-waits-requires :
-    tie.Need-semaphore-waits-requires Inv-loop μ-loop Inv-loop2 μ-loop2 Inv-loop3 μ-loop3
-semaphore-waits-requires c κs = search needs
-
-loop-less-3 : tie.Need-loop-less-3 Inv-loop μ-loop Inv-loop2 μ-loop2 Inv-loop3 μ-loop3
-loop-less-3 c = search needs
-
-loop-again-3 : tie.Need-loop-again-3 Inv-loop μ-loop Inv-loop2 μ-loop2 Inv-loop3 μ-loop3
-unfolding threadAt heldAt semaphoreAt
-loop-again-3 c =
-    let k = c .before .before .before .before .before .before .before .before .before .before .before .before .before .before .before .before .before .args .t1 in
-    let l = c .before .before .before .before .before .before .before .before .before .before .before .before .before .before .loop in
-    let i = l .inv in
-    let t = c .before .before .before .before .before .before .before .before .before .before .before .before .before .loop-test .taken in
-    let b : l .t + 1 ≤ 32 = omega arith in
-    let e = getD-any (k .scheduler .threads) (l .t) _ noThread (inside t (i .1)) in
-    let d = getD-any (k .held) (l .t) _ noHeld (inside t (i .2)) in
-    let w = one-more (λ n. heldFitb (threadOf k n) (heldAt k n)) (l .t) (l .held) _ (i .7) (and-rest (c .before .before .before .before .before .before .before .paused-fits .ensures) (sym (c .before .before .before .before .before .before .before .before .before .before .is-paused .ensures) ∙ c .before .before .before .before .before .before .before .before .before .if1 .taken) ∙ ap₂ heldFitb e d) in
-    let q = getD-any (k .semaphores) _ _ noSemaphore (inside (c .before .before .if5 .taken) (i .3)) in
-    (b, i .1, i .2, i .3, i .4, i .5, i .6, w, one-more (waitFitb k) (l .t) (l .waits) _ (i .8) (c .semaphore-waits .ensures ∙ waits-semaphore k (l .t) _ e _ q (sym (c .before .before .before .before .waits-on2 .ensures) ∙ c .before .before .before .if4 .taken)))
-
-loop-less-4 : tie.Need-loop-less-4 Inv-loop μ-loop Inv-loop2 μ-loop2 Inv-loop3 μ-loop3
-loop-less-4 c = search needs
-
-loop-again-4 : tie.Need-loop-again-4 Inv-loop μ-loop Inv-loop2 μ-loop2 Inv-loop3 μ-loop3
-unfolding threadAt heldAt
-loop-again-4 c =
-    let k = c .before .before .before .before .before .before .before .before .before .before .before .before .before .before .before .args .t1 in
-    let l = c .before .before .before .before .before .before .before .before .before .before .before .before .loop in
-    let i = l .inv in
-    let t = c .before .before .before .before .before .before .before .before .before .before .before .loop-test .taken in
-    let b : l .t + 1 ≤ 32 = omega arith in
-    let e = getD-any (k .scheduler .threads) (l .t) _ noThread (inside t (i .1)) in
-    let d = getD-any (k .held) (l .t) _ noHeld (inside t (i .2)) in
-    let w = one-more (λ n. heldFitb (threadOf k n) (heldAt k n)) (l .t) (l .held) _ (i .7) (and-rest (c .before .before .before .before .before .paused-fits .ensures) (sym (c .before .before .before .before .before .before .before .before .is-paused .ensures) ∙ c .before .before .before .before .before .before .before .if1 .taken) ∙ ap₂ heldFitb e d) in
-    (b, i .1, i .2, i .3, i .4, i .5, i .6, w, past-more (waitFitb k) (l .t) (past-semaphores k (l .t) _ e (outside (c .if5 .left) (i .3)) (sym (c .before .before .waits-on2 .ensures) ∙ c .before .if4 .taken)))
-
-waits-on-requires-3 :
-    tie.Need-waits-on-requires-3 Inv-loop μ-loop Inv-loop2 μ-loop2 Inv-loop3 μ-loop3
-waits-on-requires-3 c κs = search needs
-
-mul-group-waits : tie.Need-mul-group-waits Inv-loop μ-loop Inv-loop2 μ-loop2 Inv-loop3 μ-loop3
-mul-group-waits c = search needs
-
-element-copy-out-group-waits :
-    tie.Need-element-copy-out-group-waits Inv-loop μ-loop Inv-loop2 μ-loop2 Inv-loop3 μ-loop3
-element-copy-out-group-waits c = search needs
-
-group-waits-requires :
-    tie.Need-group-waits-requires Inv-loop μ-loop Inv-loop2 μ-loop2 Inv-loop3 μ-loop3
-group-waits-requires c κs = search needs
-
-loop-less-5 : tie.Need-loop-less-5 Inv-loop μ-loop Inv-loop2 μ-loop2 Inv-loop3 μ-loop3
-loop-less-5 c = search needs
-
-loop-again-5 : tie.Need-loop-again-5 Inv-loop μ-loop Inv-loop2 μ-loop2 Inv-loop3 μ-loop3
-unfolding threadAt heldAt groupAt
-loop-again-5 c =
-    let k = c .before .before .before .before .before .before .before .before .before .before .before .before .before .before .before .before .before .before .before .args .t1 in
-    let l = c .before .before .before .before .before .before .before .before .before .before .before .before .before .before .before .before .loop in
-    let i = l .inv in
-    let t = c .before .before .before .before .before .before .before .before .before .before .before .before .before .before .before .loop-test .taken in
-    let b : l .t + 1 ≤ 32 = omega arith in
-    let e = getD-any (k .scheduler .threads) (l .t) _ noThread (inside t (i .1)) in
-    let d = getD-any (k .held) (l .t) _ noHeld (inside t (i .2)) in
-    let w = one-more (λ n. heldFitb (threadOf k n) (heldAt k n)) (l .t) (l .held) _ (i .7) (and-rest (c .before .before .before .before .before .before .before .before .before .paused-fits .ensures) (sym (c .before .before .before .before .before .before .before .before .before .before .before .before .is-paused .ensures) ∙ c .before .before .before .before .before .before .before .before .before .before .before .if1 .taken) ∙ ap₂ heldFitb e d) in
-    let q = getD-any (k .groups) _ _ noGroup (inside (c .before .before .if7 .taken) (i .5)) in
-    (b, i .1, i .2, i .3, i .4, i .5, i .6, w, one-more (waitFitb k) (l .t) (l .waits) _ (i .8) (c .group-waits .ensures ∙ waits-group k (l .t) _ e _ _ d q (sym (c .before .before .before .before .waits-on3 .ensures) ∙ c .before .before .before .if6 .taken)))
-
-loop-less-6 : tie.Need-loop-less-6 Inv-loop μ-loop Inv-loop2 μ-loop2 Inv-loop3 μ-loop3
-loop-less-6 c = search needs
-
-loop-again-6 : tie.Need-loop-again-6 Inv-loop μ-loop Inv-loop2 μ-loop2 Inv-loop3 μ-loop3
-unfolding threadAt heldAt
-loop-again-6 c =
-    let k = c .before .before .before .before .before .before .before .before .before .before .before .before .before .before .before .before .before .args .t1 in
-    let l = c .before .before .before .before .before .before .before .before .before .before .before .before .before .before .loop in
-    let i = l .inv in
-    let t = c .before .before .before .before .before .before .before .before .before .before .before .before .before .loop-test .taken in
-    let b : l .t + 1 ≤ 32 = omega arith in
-    let e = getD-any (k .scheduler .threads) (l .t) _ noThread (inside t (i .1)) in
-    let d = getD-any (k .held) (l .t) _ noHeld (inside t (i .2)) in
-    let w = one-more (λ n. heldFitb (threadOf k n) (heldAt k n)) (l .t) (l .held) _ (i .7) (and-rest (c .before .before .before .before .before .before .before .paused-fits .ensures) (sym (c .before .before .before .before .before .before .before .before .before .before .is-paused .ensures) ∙ c .before .before .before .before .before .before .before .before .before .if1 .taken) ∙ ap₂ heldFitb e d) in
-    (b, i .1, i .2, i .3, i .4, i .5, i .6, w, past-more (waitFitb k) (l .t) (past-groups k (l .t) _ e (outside (c .if7 .left) (i .5)) (sym (c .before .before .waits-on3 .ensures) ∙ c .before .if6 .taken)))
-
-waits-on-requires-4 :
-    tie.Need-waits-on-requires-4 Inv-loop μ-loop Inv-loop2 μ-loop2 Inv-loop3 μ-loop3
-waits-on-requires-4 c κs = search needs
-
-mul-pool-waits : tie.Need-mul-pool-waits Inv-loop μ-loop Inv-loop2 μ-loop2 Inv-loop3 μ-loop3
-mul-pool-waits c = search needs
-
-element-copy-out-pool-waits :
-    tie.Need-element-copy-out-pool-waits Inv-loop μ-loop Inv-loop2 μ-loop2 Inv-loop3 μ-loop3
-element-copy-out-pool-waits c = search needs
-
-pool-waits-requires :
-    tie.Need-pool-waits-requires Inv-loop μ-loop Inv-loop2 μ-loop2 Inv-loop3 μ-loop3
-pool-waits-requires c κs = search needs
-
-loop-less-7 : tie.Need-loop-less-7 Inv-loop μ-loop Inv-loop2 μ-loop2 Inv-loop3 μ-loop3
-loop-less-7 c = search needs
-
-loop-again-7 : tie.Need-loop-again-7 Inv-loop μ-loop Inv-loop2 μ-loop2 Inv-loop3 μ-loop3
-unfolding threadAt heldAt poolAt
-loop-again-7 c =
-    let k = c .before .before .before .before .before .before .before .before .before .before .before .before .before .before .before .before .before .before .before .before .before .args .t1 in
-    let l = c .before .before .before .before .before .before .before .before .before .before .before .before .before .before .before .before .before .before .loop in
-    let i = l .inv in
-    let t = c .before .before .before .before .before .before .before .before .before .before .before .before .before .before .before .before .before .loop-test .taken in
-    let b : l .t + 1 ≤ 32 = omega arith in
-    let e = getD-any (k .scheduler .threads) (l .t) _ noThread (inside t (i .1)) in
-    let d = getD-any (k .held) (l .t) _ noHeld (inside t (i .2)) in
-    let w = one-more (λ n. heldFitb (threadOf k n) (heldAt k n)) (l .t) (l .held) _ (i .7) (and-rest (c .before .before .before .before .before .before .before .before .before .before .before .paused-fits .ensures) (sym (c .before .before .before .before .before .before .before .before .before .before .before .before .before .before .is-paused .ensures) ∙ c .before .before .before .before .before .before .before .before .before .before .before .before .before .if1 .taken) ∙ ap₂ heldFitb e d) in
-    let q = getD-any (k .pools) _ _ noPool (inside (c .before .before .if9 .taken) (i .6)) in
-    (b, i .1, i .2, i .3, i .4, i .5, i .6, w, one-more (waitFitb k) (l .t) (l .waits) _ (i .8) (c .pool-waits .ensures ∙ waits-pool k (l .t) _ e _ q (sym (c .before .before .before .before .waits-on4 .ensures) ∙ c .before .before .before .if8 .taken)))
-
-loop-less-8 : tie.Need-loop-less-8 Inv-loop μ-loop Inv-loop2 μ-loop2 Inv-loop3 μ-loop3
-loop-less-8 c = search needs
-
-loop-again-8 : tie.Need-loop-again-8 Inv-loop μ-loop Inv-loop2 μ-loop2 Inv-loop3 μ-loop3
-unfolding threadAt heldAt
-loop-again-8 c =
-    let k = c .before .before .before .before .before .before .before .before .before .before .before .before .before .before .before .before .before .before .before .args .t1 in
-    let l = c .before .before .before .before .before .before .before .before .before .before .before .before .before .before .before .before .loop in
-    let i = l .inv in
-    let t = c .before .before .before .before .before .before .before .before .before .before .before .before .before .before .before .loop-test .taken in
-    let b : l .t + 1 ≤ 32 = omega arith in
-    let e = getD-any (k .scheduler .threads) (l .t) _ noThread (inside t (i .1)) in
-    let d = getD-any (k .held) (l .t) _ noHeld (inside t (i .2)) in
-    let w = one-more (λ n. heldFitb (threadOf k n) (heldAt k n)) (l .t) (l .held) _ (i .7) (and-rest (c .before .before .before .before .before .before .before .before .before .paused-fits .ensures) (sym (c .before .before .before .before .before .before .before .before .before .before .before .before .is-paused .ensures) ∙ c .before .before .before .before .before .before .before .before .before .before .before .if1 .taken) ∙ ap₂ heldFitb e d) in
-    (b, i .1, i .2, i .3, i .4, i .5, i .6, w, past-more (waitFitb k) (l .t) (past-pools k (l .t) _ e (outside (c .if9 .left) (i .6)) (sym (c .before .before .waits-on4 .ensures) ∙ c .before .if8 .taken)))
-
-loop-less-9 : tie.Need-loop-less-9 Inv-loop μ-loop Inv-loop2 μ-loop2 Inv-loop3 μ-loop3
-loop-less-9 c = search needs
-
-loop-again-9 : tie.Need-loop-again-9 Inv-loop μ-loop Inv-loop2 μ-loop2 Inv-loop3 μ-loop3
-unfolding threadAt heldAt
-loop-again-9 c =
-    let k = c .before .before .before .before .before .before .before .before .before .before .before .before .before .before .before .before .before .before .args .t1 in
-    let l = c .before .before .before .before .before .before .before .before .before .before .before .before .before .before .before .loop in
-    let i = l .inv in
-    let t = c .before .before .before .before .before .before .before .before .before .before .before .before .before .before .loop-test .taken in
-    let b : l .t + 1 ≤ 32 = omega arith in
-    let e = getD-any (k .scheduler .threads) (l .t) _ noThread (inside t (i .1)) in
-    let d = getD-any (k .held) (l .t) _ noHeld (inside t (i .2)) in
-    let w = one-more (λ n. heldFitb (threadOf k n) (heldAt k n)) (l .t) (l .held) _ (i .7) (and-rest (c .before .before .before .before .before .before .before .before .paused-fits .ensures) (sym (c .before .before .before .before .before .before .before .before .before .before .before .is-paused .ensures) ∙ c .before .before .before .before .before .before .before .before .before .before .if1 .taken) ∙ ap₂ heldFitb e d) in
-    (b, i .1, i .2, i .3, i .4, i .5, i .6, w, none-more (waitFitb k) (l .t) (l .waits) (i .8) (waits-none k (l .t) _ e (sym (c .before .before .before .before .before .before .before .waits-on .ensures) ∙ c .before .before .before .before .before .before .if2 .left) (sym (c .before .before .before .before .before .waits-on2 .ensures) ∙ c .before .before .before .before .if4 .left) (sym (c .before .before .before .waits-on3 .ensures) ∙ c .before .before .if6 .left) (sym (c .before .waits-on4 .ensures) ∙ c .if8 .left)))
-
-mul-resting-fits : tie.Need-mul-resting-fits Inv-loop μ-loop Inv-loop2 μ-loop2 Inv-loop3 μ-loop3
-mul-resting-fits c = search needs
-
-element-copy-out-resting-fits :
-    tie.Need-element-copy-out-resting-fits Inv-loop μ-loop Inv-loop2 μ-loop2 Inv-loop3 μ-loop3
-element-copy-out-resting-fits c = search needs
-
-resting-fits-requires :
-    tie.Need-resting-fits-requires Inv-loop μ-loop Inv-loop2 μ-loop2 Inv-loop3 μ-loop3
-resting-fits-requires c κs = search needs
-
-add-t-2 : tie.Need-add-t-2 Inv-loop μ-loop Inv-loop2 μ-loop2 Inv-loop3 μ-loop3
-add-t-2 c = search needs
-
-loop-less-10 : tie.Need-loop-less-10 Inv-loop μ-loop Inv-loop2 μ-loop2 Inv-loop3 μ-loop3
-loop-less-10 c = search needs
-
-loop-again-10 : tie.Need-loop-again-10 Inv-loop μ-loop Inv-loop2 μ-loop2 Inv-loop3 μ-loop3
-unfolding threadAt heldAt
-loop-again-10 c =
-    let k = c .before .before .before .before .before .before .before .before .before .before .before .args .t1 in
-    let l = c .before .before .before .before .before .before .before .before .loop in
-    let i = l .inv in
-    let t = c .before .before .before .before .before .before .before .loop-test .taken in
-    let b : l .t + 1 ≤ 32 = omega arith in
-    let e = getD-any (k .scheduler .threads) (l .t) _ noThread (inside t (i .1)) in
-    let d = getD-any (k .held) (l .t) _ noHeld (inside t (i .2)) in
-    let p = sym (c .before .before .before .before .is-paused .ensures) ∙ c .before .before .before .if1 .left in
-    let w = one-more (λ n. heldFitb (threadOf k n) (heldAt k n)) (l .t) (l .held) _ (i .7) (resting-read k (l .t) _ e _ d (c .resting-fits .result) (c .resting-fits .ensures) (c .before .before .if10 .taken) p) in
-    (b, i .1, i .2, i .3, i .4, i .5, i .6, w, none-more (waitFitb k) (l .t) (l .waits) (i .8) (waits-rest k (l .t) _ e p))
-
-mul-unheld-fits : tie.Need-mul-unheld-fits Inv-loop μ-loop Inv-loop2 μ-loop2 Inv-loop3 μ-loop3
-mul-unheld-fits c = search needs
-
-element-copy-out-unheld-fits :
-    tie.Need-element-copy-out-unheld-fits Inv-loop μ-loop Inv-loop2 μ-loop2 Inv-loop3 μ-loop3
-element-copy-out-unheld-fits c = search needs
-
-unheld-fits-requires :
-    tie.Need-unheld-fits-requires Inv-loop μ-loop Inv-loop2 μ-loop2 Inv-loop3 μ-loop3
-unheld-fits-requires c κs = search needs
-
-add-t-3 : tie.Need-add-t-3 Inv-loop μ-loop Inv-loop2 μ-loop2 Inv-loop3 μ-loop3
-add-t-3 c = search needs
-
-loop-less-11 : tie.Need-loop-less-11 Inv-loop μ-loop Inv-loop2 μ-loop2 Inv-loop3 μ-loop3
-loop-less-11 c = search needs
-
-loop-again-11 : tie.Need-loop-again-11 Inv-loop μ-loop Inv-loop2 μ-loop2 Inv-loop3 μ-loop3
-unfolding threadAt heldAt
-loop-again-11 c =
-    let k = c .before .before .before .before .before .before .before .before .before .before .before .args .t1 in
-    let l = c .before .before .before .before .before .before .before .before .loop in
-    let i = l .inv in
-    let t = c .before .before .before .before .before .before .before .loop-test .taken in
-    let b : l .t + 1 ≤ 32 = omega arith in
-    let e = getD-any (k .scheduler .threads) (l .t) _ noThread (inside t (i .1)) in
-    let d = getD-any (k .held) (l .t) _ noHeld (inside t (i .2)) in
-    let p = sym (c .before .before .before .before .is-paused .ensures) ∙ c .before .before .before .if1 .left in
-    let w = one-more (λ n. heldFitb (threadOf k n) (heldAt k n)) (l .t) (l .held) _ (i .7) (unheld-read k (l .t) _ e _ d (c .unheld-fits .result) (c .unheld-fits .ensures) (c .before .before .if10 .left)) in
-    (b, i .1, i .2, i .3, i .4, i .5, i .6, w, none-more (waitFitb k) (l .t) (l .waits) (i .8) (waits-rest k (l .t) _ e p))
-
-loop2-holds : tie.Need-loop2-holds Inv-loop μ-loop Inv-loop2 μ-loop2 Inv-loop3 μ-loop3
-unfolding allBelow
-loop2-holds c = (omega arith, refl)
-
-mul-if11 : tie.Need-mul-if11 Inv-loop μ-loop Inv-loop2 μ-loop2 Inv-loop3 μ-loop3
-mul-if11 c = search needs
-
-element-copy-out-if11 :
-    tie.Need-element-copy-out-if11 Inv-loop μ-loop Inv-loop2 μ-loop2 Inv-loop3 μ-loop3
-element-copy-out-if11 c = search needs
-
-mul-is-fit-empty : tie.Need-mul-is-fit-empty Inv-loop μ-loop Inv-loop2 μ-loop2 Inv-loop3 μ-loop3
-mul-is-fit-empty c = search needs
-
-element-copy-out-is-fit-empty :
-    tie.Need-element-copy-out-is-fit-empty Inv-loop μ-loop Inv-loop2 μ-loop2 Inv-loop3 μ-loop3
-element-copy-out-is-fit-empty c = search needs
-
-is-fit-empty-requires :
-    tie.Need-is-fit-empty-requires Inv-loop μ-loop Inv-loop2 μ-loop2 Inv-loop3 μ-loop3
-is-fit-empty-requires c κs = search needs
-
-add-q : tie.Need-add-q Inv-loop μ-loop Inv-loop2 μ-loop2 Inv-loop3 μ-loop3
-add-q c = search needs
-
-loop2-less : tie.Need-loop2-less Inv-loop μ-loop Inv-loop2 μ-loop2 Inv-loop3 μ-loop3
-loop2-less c = search needs
-
-loop2-again : tie.Need-loop2-again Inv-loop μ-loop Inv-loop2 μ-loop2 Inv-loop3 μ-loop3
-unfolding queueAt emptyb
-loop2-again c =
-    let k = c .before .before .before .before .before .before .before .before .before .args .t1 in
-    let l = c .before .before .before .before .loop2 in
-    let e = getD-any (k .queues) (l .q) _ noQueue (inside (c .before .before .before .loop2-test .taken) (c .before .before .before .before .before .before .loop .inv .4)) in
-    (omega arith, one-more (λ n. queueFitb (queueAt k n)) (l .q) (l .queues) _ (l .inv .1) (and-rest (c .is-fit-empty .ensures) (eq-eqb _ 0 (c .before .before .if11 .taken)) ∙ ap queueFitb e))
-
-mul-is-fit : tie.Need-mul-is-fit Inv-loop μ-loop Inv-loop2 μ-loop2 Inv-loop3 μ-loop3
-mul-is-fit c = search needs
-
-element-copy-out-is-fit :
-    tie.Need-element-copy-out-is-fit Inv-loop μ-loop Inv-loop2 μ-loop2 Inv-loop3 μ-loop3
-element-copy-out-is-fit c = search needs
-
-is-fit-requires : tie.Need-is-fit-requires Inv-loop μ-loop Inv-loop2 μ-loop2 Inv-loop3 μ-loop3
-is-fit-requires c κs = search needs
-
-add-q-2 : tie.Need-add-q-2 Inv-loop μ-loop Inv-loop2 μ-loop2 Inv-loop3 μ-loop3
-add-q-2 c = search needs
-
-loop2-less-2 : tie.Need-loop2-less-2 Inv-loop μ-loop Inv-loop2 μ-loop2 Inv-loop3 μ-loop3
-loop2-less-2 c = search needs
-
-loop2-again-2 : tie.Need-loop2-again-2 Inv-loop μ-loop Inv-loop2 μ-loop2 Inv-loop3 μ-loop3
-unfolding queueAt
-loop2-again-2 c =
-    let k = c .before .before .before .before .before .before .before .before .before .args .t1 in
-    let l = c .before .before .before .before .loop2 in
-    let e = getD-any (k .queues) (l .q) _ noQueue (inside (c .before .before .before .loop2-test .taken) (c .before .before .before .before .before .before .loop .inv .4)) in
-    (omega arith, one-more (λ n. queueFitb (queueAt k n)) (l .q) (l .queues) _ (l .inv .1) (c .is-fit .ensures ∙ ap queueFitb e))
-
-loop3-holds : tie.Need-loop3-holds Inv-loop μ-loop Inv-loop2 μ-loop2 Inv-loop3 μ-loop3
-unfolding allBelow
-loop3-holds c = (omega arith, refl)
-
-mul-if12 : tie.Need-mul-if12 Inv-loop μ-loop Inv-loop2 μ-loop2 Inv-loop3 μ-loop3
-mul-if12 c = search needs
-
-element-copy-out-if12 :
-    tie.Need-element-copy-out-if12 Inv-loop μ-loop Inv-loop2 μ-loop2 Inv-loop3 μ-loop3
-element-copy-out-if12 c = search needs
-
-mul-is-fit-2 : tie.Need-mul-is-fit-2 Inv-loop μ-loop Inv-loop2 μ-loop2 Inv-loop3 μ-loop3
-mul-is-fit-2 c = search needs
-
-element-copy-out-is-fit-2 :
-    tie.Need-element-copy-out-is-fit-2 Inv-loop μ-loop Inv-loop2 μ-loop2 Inv-loop3 μ-loop3
-element-copy-out-is-fit-2 c = search needs
-
-is-fit-requires-2 : tie.Need-is-fit-requires-2 Inv-loop μ-loop Inv-loop2 μ-loop2 Inv-loop3 μ-loop3
-is-fit-requires-2 c κs = search needs
-
-add-p : tie.Need-add-p Inv-loop μ-loop Inv-loop2 μ-loop2 Inv-loop3 μ-loop3
-add-p c = search needs
-
-loop3-less : tie.Need-loop3-less Inv-loop μ-loop Inv-loop2 μ-loop2 Inv-loop3 μ-loop3
-loop3-less c = search needs
-
-loop3-again : tie.Need-loop3-again Inv-loop μ-loop Inv-loop2 μ-loop2 Inv-loop3 μ-loop3
-unfolding poolAt
-loop3-again c =
-    let k = c .before .before .before .before .before .before .before .before .before .before .before .args .t1 in
-    let l = c .before .before .before .before .loop3 in
-    let e = getD-any (k .pools) (l .p) _ noPool (inside (c .before .before .before .loop3-test .taken) (c .before .before .before .before .before .before .before .before .loop .inv .6)) in
-    (omega arith, one-more (λ n. poolFitb (poolAt k n)) (l .p) (l .pools) _ (l .inv .1) (c .is-fit2 .ensures ∙ ap poolFitb e))
-
-mul-is-zero : tie.Need-mul-is-zero Inv-loop μ-loop Inv-loop2 μ-loop2 Inv-loop3 μ-loop3
-mul-is-zero c = search needs
-
-element-copy-out-is-zero :
-    tie.Need-element-copy-out-is-zero Inv-loop μ-loop Inv-loop2 μ-loop2 Inv-loop3 μ-loop3
-element-copy-out-is-zero c = search needs
-
-is-zero-requires : tie.Need-is-zero-requires Inv-loop μ-loop Inv-loop2 μ-loop2 Inv-loop3 μ-loop3
-is-zero-requires c κs = search needs
-
-add-p-2 : tie.Need-add-p-2 Inv-loop μ-loop Inv-loop2 μ-loop2 Inv-loop3 μ-loop3
-add-p-2 c = search needs
-
-loop3-less-2 : tie.Need-loop3-less-2 Inv-loop μ-loop Inv-loop2 μ-loop2 Inv-loop3 μ-loop3
-loop3-less-2 c = search needs
-
-loop3-again-2 : tie.Need-loop3-again-2 Inv-loop μ-loop Inv-loop2 μ-loop2 Inv-loop3 μ-loop3
-unfolding poolAt
-loop3-again-2 c =
-    let k = c .before .before .before .before .before .before .before .before .before .before .before .args .t1 in
-    let l = c .before .before .before .before .loop3 in
-    let e = getD-any (k .pools) (l .p) _ noPool (inside (c .before .before .before .loop3-test .taken) (c .before .before .before .before .before .before .before .before .loop .inv .6)) in
-    (omega arith, one-more (λ n. poolFitb (poolAt k n)) (l .p) (l .pools) _ (l .inv .1) (c .is-zero .ensures ∙ sym (Pools.fit-uncreated _ (c .before .before .if12 .left)) ∙ ap poolFitb e))
-
-semaphores-fit-requires :
-    tie.Need-semaphores-fit-requires Inv-loop μ-loop Inv-loop2 μ-loop2 Inv-loop3 μ-loop3
-semaphores-fit-requires c κs = search needs
-
-groups-fit-requires :
-    tie.Need-groups-fit-requires Inv-loop μ-loop Inv-loop2 μ-loop2 Inv-loop3 μ-loop3
-groups-fit-requires c κs = search needs
-
-returns : tie.Need-returns Inv-loop μ-loop Inv-loop2 μ-loop2 Inv-loop3 μ-loop3
-unfolding soundb queuesFitb poolsFitb queueAt poolAt
-returns c =
-    let l = c .before .before .before .before .before .before .before .before .before .loop in
-    let m = c .before .before .before .before .before .before .before .loop2 in
-    let o = c .before .before .before .before .before .loop3 in
-    let x : l .t ≡ 32 = omega arith in
-    let y : m .q ≡ 8 = omega arith in
-    let z : o .p ≡ 4 = omega arith in
-    rw (c .before .before .before .before .before .before .before .before .before .before .is-sound .ensures, l .inv .7, l .inv .8, x, c .before .semaphores-fit .ensures, m .inv .1, y, c .groups-fit .ensures, o .inv .1, z)
+-- a place of the code under these invariants
+abbrev At : (tie.InvT-loop → tie.MeasureT-loop → tie.InvT-loop2 → tie.MeasureT-loop2 → tie.InvT-loop3 → tie.MeasureT-loop3 → Type 0) → Type 0
+At place = place Inv-loop μ-loop Inv-loop2 μ-loop2 Inv-loop3 μ-loop3
+
+-- the tables of objects have their sizes
+abbrev Sized : Kernel → Type 0
+Sized k = (length (k .queues) ≡ 8) × (length (k .semaphores) ≡ 16) × (length (k .groups) ≡ 8) × (length (k .pools) ≡ 4)
+
+module _ (x : At tie.Start) where
+  sized : Sized (x .args .t1)
+  sized = (search length-mapped, search length-mapped, search length-mapped, search length-mapped)
+
+-- ---- a turn of the first loop
+module _ (k : At tie.In-loop) where
+  abbrev self : Kernel
+  self = k .before .before .before .before .args .t1
+
+  abbrev sizes : Sized self
+  sizes = sized (k .before .before .before .before)
+
+  abbrev t : ℕ
+  t = k .before .loop .t
+
+  -- the thread and what it holds, as they are read
+  thread : (d : Thread) → getD (self .scheduler .threads) t d ≡ threadOf self t
+  unfolding threadAt
+  thread d = read-inside (self .scheduler .threads) t d noThread (k .loop-test .taken) (search length-mapped)
+
+  holds : (d : Held) → getD (self .held) t d ≡ heldAt self t
+  unfolding heldAt
+  holds d = read-inside (self .held) t d noHeld (k .loop-test .taken) (search length-mapped)
+
+  -- the tests with those of this thread
+  next : {h w : Bool} → h ≡ heldTest self t → w ≡ allBelow (t + 1) (waitFitb self) → Tested self (k .before .loop .held && h) w (t + 1)
+  next e f = (omega arith, one-more (heldTest self) t _ _ (k .before .loop .inv .1) e, f)
+
+  waiting : {b : Bool} → b ≡ waitFitb self t → (k .before .loop .waits && b) ≡ allBelow (t + 1) (waitFitb self)
+  waiting = one-more (waitFitb self) t _ _ (k .before .loop .inv .2)
+
+  resting : waitFitb self t ≡ true → k .before .loop .waits ≡ allBelow (t + 1) (waitFitb self)
+  resting = none-more (waitFitb self) t _ (k .before .loop .inv .2)
+
+-- a thread that waits or sleeps
+module _ (k : At tie.After-paused-fits) where
+  abbrev turn : At tie.In-loop
+  turn = k .before .before .before .before .before .before
+
+  paused : {w : Bool} → w ≡ allBelow (t turn + 1) (waitFitb (self turn)) → Tested (self turn) (turn .before .loop .held && k .paused-fits .result) w (t turn + 1)
+  paused =
+      let p = sym (k .before .before .before .is-paused .ensures) ∙ k .before .before .if1 .taken in
+      next turn (and-rest (k .paused-fits .ensures) p ∙ ap₂ heldFitb (thread turn _) (holds turn _))
 
 pub is-sound-spec : {M : Type 1} → statement M
+unfolding allBelow soundb queuesFitb poolsFitb emptyb semaphoreAt queueAt groupAt poolAt
 is-sound-spec =
     tie.close
     (tie.spec
@@ -493,92 +115,126 @@ is-sound-spec =
     μ-loop2
     Inv-loop3
     μ-loop3
-    is-sound-requires
-    loop-holds
-    mul-th
-    element-copy-out-th
-    cast-n
-    is-paused-requires
-    mul-h
-    element-copy-out-h
-    paused-fits-requires
-    add-t
-    waits-on-requires
-    mul-queue-waits
-    element-copy-out-queue-waits
-    queue-waits-requires
-    loop-less
-    loop-again
-    loop-less-2
-    loop-again-2
-    waits-on-requires-2
-    mul-semaphore-waits
-    element-copy-out-semaphore-waits
-    semaphore-waits-requires
-    loop-less-3
-    loop-again-3
-    loop-less-4
-    loop-again-4
-    waits-on-requires-3
-    mul-group-waits
-    element-copy-out-group-waits
-    group-waits-requires
-    loop-less-5
-    loop-again-5
-    loop-less-6
-    loop-again-6
-    waits-on-requires-4
-    mul-pool-waits
-    element-copy-out-pool-waits
-    pool-waits-requires
-    loop-less-7
-    loop-again-7
-    loop-less-8
-    loop-again-8
-    loop-less-9
-    loop-again-9
-    mul-resting-fits
-    element-copy-out-resting-fits
-    resting-fits-requires
-    add-t-2
-    loop-less-10
-    loop-again-10
-    mul-unheld-fits
-    element-copy-out-unheld-fits
-    unheld-fits-requires
-    add-t-3
-    loop-less-11
-    loop-again-11
-    loop2-holds
-    mul-if11
-    element-copy-out-if11
-    mul-is-fit-empty
-    element-copy-out-is-fit-empty
-    is-fit-empty-requires
-    add-q
-    loop2-less
-    loop2-again
-    mul-is-fit
-    element-copy-out-is-fit
-    is-fit-requires
-    add-q-2
-    loop2-less-2
-    loop2-again-2
-    loop3-holds
-    mul-if12
-    element-copy-out-if12
-    mul-is-fit-2
-    element-copy-out-is-fit-2
-    is-fit-requires-2
-    add-p
-    loop3-less
-    loop3-again
-    mul-is-zero
-    element-copy-out-is-zero
-    is-zero-requires
-    add-p-2
-    loop3-less-2
-    loop3-again-2
-    semaphores-fit-requires
-    groups-fit-requires
-    returns)
+    (λ c κs. search needs)
+    (λ c. (omega arith, refl, refl))
+    (λ c. search needs) (λ c. search needs) (λ c. search needs) (λ c κs. search needs) (λ c. search needs)
+    (λ c. search needs) (λ c κs. search needs) (λ c. search needs) (λ c κs. search needs) (λ c. search needs)
+    (λ c. search needs) (λ c κs. search needs) (λ c. search needs)
+    -- it waits on a queue: inside the table, then past it
+    (λ c.
+    let p = c .before .before .before .before .before in
+    let k = turn p in
+    let q = read-inside (self k .queues) _ _ noQueue (c .before .before .if3 .taken) (sizes k .0) in
+    let w = sym (c .before .before .before .before .waits-on .ensures) ∙ c .before .before .before .if2 .taken in
+    paused p (waiting k (c .queue-waits .ensures ∙ waits-queue (self k) (t k) _ (thread k _) _ _ (holds k _) q w)))
+    (λ c. search needs)
+    (λ c.
+    let p = c .before .before .before in
+    let k = turn p in
+    let w = sym (c .before .before .waits-on .ensures) ∙ c .before .if2 .taken in
+    paused p (past-more (waitFitb (self k)) (t k) (past-queues (self k) (t k) _ (thread k _) (outside (c .if3 .left) (sizes k .0)) w)))
+    (λ c κs. search needs) (λ c. search needs) (λ c. search needs) (λ c κs. search needs) (λ c. search needs)
+    -- on a semaphore
+    (λ c.
+    let p = c .before .before .before .before .before .before .before in
+    let k = turn p in
+    let q = read-inside (self k .semaphores) _ _ noSemaphore (c .before .before .if5 .taken) (sizes k .1) in
+    let w = sym (c .before .before .before .before .waits-on2 .ensures) ∙ c .before .before .before .if4 .taken in
+    paused p (waiting k (c .semaphore-waits .ensures ∙ waits-semaphore (self k) (t k) _ (thread k _) _ q w)))
+    (λ c. search needs)
+    (λ c.
+    let p = c .before .before .before .before .before in
+    let k = turn p in
+    let w = sym (c .before .before .waits-on2 .ensures) ∙ c .before .if4 .taken in
+    paused p (past-more (waitFitb (self k)) (t k) (past-semaphores (self k) (t k) _ (thread k _) (outside (c .if5 .left) (sizes k .1)) w)))
+    (λ c κs. search needs) (λ c. search needs) (λ c. search needs) (λ c κs. search needs) (λ c. search needs)
+    -- on a group
+    (λ c.
+    let p = c .before .before .before .before .before .before .before .before .before in
+    let k = turn p in
+    let q = read-inside (self k .groups) _ _ noGroup (c .before .before .if7 .taken) (sizes k .2) in
+    let w = sym (c .before .before .before .before .waits-on3 .ensures) ∙ c .before .before .before .if6 .taken in
+    paused p (waiting k (c .group-waits .ensures ∙ waits-group (self k) (t k) _ (thread k _) _ _ (holds k _) q w)))
+    (λ c. search needs)
+    (λ c.
+    let p = c .before .before .before .before .before .before .before in
+    let k = turn p in
+    let w = sym (c .before .before .waits-on3 .ensures) ∙ c .before .if6 .taken in
+    paused p (past-more (waitFitb (self k)) (t k) (past-groups (self k) (t k) _ (thread k _) (outside (c .if7 .left) (sizes k .2)) w)))
+    (λ c κs. search needs) (λ c. search needs) (λ c. search needs) (λ c κs. search needs) (λ c. search needs)
+    -- on a pool
+    (λ c.
+    let p = c .before .before .before .before .before .before .before .before .before .before .before in
+    let k = turn p in
+    let q = read-inside (self k .pools) _ _ noPool (c .before .before .if9 .taken) (sizes k .3) in
+    let w = sym (c .before .before .before .before .waits-on4 .ensures) ∙ c .before .before .before .if8 .taken in
+    paused p (waiting k (c .pool-waits .ensures ∙ waits-pool (self k) (t k) _ (thread k _) _ q w)))
+    (λ c. search needs)
+    (λ c.
+    let p = c .before .before .before .before .before .before .before .before .before in
+    let k = turn p in
+    let w = sym (c .before .before .waits-on4 .ensures) ∙ c .before .if8 .taken in
+    paused p (past-more (waitFitb (self k)) (t k) (past-pools (self k) (t k) _ (thread k _) (outside (c .if9 .left) (sizes k .3)) w)))
+    (λ c. search needs)
+    -- it sleeps
+    (λ c.
+    let p = c .before .before .before .before .before .before .before .before in
+    let k = turn p in
+    let q = sym (c .before .before .before .before .before .before .before .waits-on .ensures) ∙ c .before .before .before .before .before .before .if2 .left in
+    let s = sym (c .before .before .before .before .before .waits-on2 .ensures) ∙ c .before .before .before .before .if4 .left in
+    let g = sym (c .before .before .before .waits-on3 .ensures) ∙ c .before .before .if6 .left in
+    let b = sym (c .before .waits-on4 .ensures) ∙ c .if8 .left in
+    paused p (resting k (waits-none (self k) (t k) _ (thread k _) q s g b)))
+    (λ c. search needs) (λ c. search needs) (λ c κs. search needs) (λ c. search needs) (λ c. search needs)
+    -- it neither waits nor sleeps; it is not created
+    (λ c.
+    let k = c .before .before .before .before .before .before .before in
+    let p = sym (c .before .before .before .before .is-paused .ensures) ∙ c .before .before .before .if1 .left in
+    let h = resting-read (self k) (t k) _ (thread k _) _ (holds k _) _ (c .resting-fits .ensures) (c .before .before .if10 .taken) p in
+    next k h (resting k (waits-rest (self k) (t k) _ (thread k _) p)))
+    (λ c. search needs) (λ c. search needs) (λ c κs. search needs) (λ c. search needs) (λ c. search needs)
+    (λ c.
+    let k = c .before .before .before .before .before .before .before in
+    let p = sym (c .before .before .before .before .is-paused .ensures) ∙ c .before .before .before .if1 .left in
+    let h = unheld-read (self k) (t k) _ (thread k _) _ (holds k _) _ (c .unheld-fits .ensures) (c .before .before .if10 .left) in
+    next k h (resting k (waits-rest (self k) (t k) _ (thread k _) p)))
+    (λ c. (omega arith, refl))
+    (λ c. search needs) (λ c. search needs) (λ c. search needs) (λ c. search needs) (λ c κs. search needs)
+    (λ c. search needs) (λ c. search needs)
+    -- a queue, empty or not
+    (λ c.
+    let x = c .before .before .before .before .before .before .before .before .before in
+    let l = c .before .before .before .before .loop2 in
+    let f = and-rest (c .is-fit-empty .ensures) (eq-eqb _ 0 (c .before .before .if11 .taken)) in
+    test-more (x .args .t1 .queues) _ queueFitb _ noQueue (c .before .before .before .loop2-test .taken) (sized x .0) (l .inv .1) f)
+    (λ c. search needs) (λ c. search needs) (λ c κs. search needs) (λ c. search needs) (λ c. search needs)
+    (λ c.
+    let x = c .before .before .before .before .before .before .before .before .before in
+    let l = c .before .before .before .before .loop2 in
+    let f = c .is-fit .ensures in
+    test-more (x .args .t1 .queues) _ queueFitb _ noQueue (c .before .before .before .loop2-test .taken) (sized x .0) (l .inv .1) f)
+    (λ c. (omega arith, refl))
+    (λ c. search needs) (λ c. search needs) (λ c. search needs) (λ c. search needs) (λ c κs. search needs)
+    (λ c. search needs) (λ c. search needs)
+    -- a pool, created or not
+    (λ c.
+    let x = c .before .before .before .before .before .before .before .before .before .before .before in
+    let l = c .before .before .before .before .loop3 in
+    let f = c .is-fit2 .ensures in
+    test-more (x .args .t1 .pools) _ poolFitb _ noPool (c .before .before .before .loop3-test .taken) (sized x .3) (l .inv .1) f)
+    (λ c. search needs) (λ c. search needs) (λ c κs. search needs) (λ c. search needs) (λ c. search needs)
+    (λ c.
+    let x = c .before .before .before .before .before .before .before .before .before .before .before in
+    let l = c .before .before .before .before .loop3 in
+    let f = c .is-zero .ensures ∙ sym (Pools.fit-uncreated _ (c .before .before .if12 .left)) in
+    test-more (x .args .t1 .pools) _ poolFitb _ noPool (c .before .before .before .loop3-test .taken) (sized x .3) (l .inv .1) f)
+    (λ c κs. search needs) (λ c κs. search needs)
+    (λ c.
+    let l = c .before .before .before .before .before .before .before .before .before .loop in
+    let m = c .before .before .before .before .before .before .before .loop2 in
+    let o = c .before .before .before .before .before .loop3 in
+    let x : l .t ≡ 32 = omega arith in
+    let y : m .q ≡ 8 = omega arith in
+    let z : o .p ≡ 4 = omega arith in
+    let s = c .before .before .before .before .before .before .before .before .before .before .is-sound .ensures in
+    rw (s, l .inv .1, l .inv .2, x, c .before .semaphores-fit .ensures, m .inv .1, y, c .groups-fit .ensures, o .inv .1, z)))
