@@ -16,57 +16,12 @@ use Rattle.kernel.proofs.Laws.Answers.{is-refused, is-carried, held-out
 use Rattle.kernel.proofs.Kernel.block_allocate.Statement.{statement}
 use Rattle.kernel.proofs.Kernel.block_allocate.Tie as tie
 
-pool-in-requires : tie.Need-pool-in-requires
-pool-in-requires c κs = search needs
-
-allocate-requires : tie.Need-allocate-requires
-allocate-requires c κs = search needs
-
-refused-requires : tie.Need-refused-requires
-refused-requires c κs = search needs
-
 returns : tie.Need-returns
 unfolding blockAllocate poolAt
 returns c =
     let a = c .before .before .before .before .before .args in
     let e = c .before .before .allocate .ensures ∙ ap (λ (x : Pool). allocateRefusal x (a .wait) (a .caller)) (c .before .before .before .pool-in .ensures) in
     c .refused .ensures ∙ ap answerOf (ap (refused (a .t1)) e ∙ sym (is-refused (a .t1) (allocateRefusal (poolAt (a .t1) (a .n .0)) (a .wait) (a .caller)) _ (λ w. c .before .if1 .taken (e ∙ w))))
-
-has-free-requires : tie.Need-has-free-requires
-has-free-requires c κs = search needs
-
-next-requires : tie.Need-next-requires
-next-requires c κs = search needs
-
-cast-two-words : tie.Need-cast-two-words
-cast-two-words c = search needs
-
-two-words-requires : tie.Need-two-words-requires
-two-words-requires c κs = search needs
-
-without-next-requires : tie.Need-without-next-requires
-without-next-requires c κs = search needs
-
-pools-with-requires : tie.Need-pools-with-requires
-pools-with-requires c κs = search needs
-
-cast-i : tie.Need-cast-i
-cast-i c = search needs
-
-with-runner-waiting-requires : tie.Need-with-runner-waiting-requires
-with-runner-waiting-requires c κs = search needs
-
-of-requires : tie.Need-of-requires
-of-requires c κs = search needs
-
-mul-h : tie.Need-mul-h
-mul-h c = search needs
-
-element-set-from-h : tie.Need-element-set-from-h
-element-set-from-h c = search needs
-
-carried-requires : tie.Need-carried-requires
-carried-requires c κs = search needs
 
 returns-2 : tie.Need-returns-2
 unfolding blockAllocate startWait answerOf carried answered withScheduler withHeld withPool poolAt
@@ -91,20 +46,9 @@ pub block-allocate-spec : {M : Type 1} → statement M
 block-allocate-spec =
     tie.close
     (tie.spec
-    pool-in-requires
-    allocate-requires
-    refused-requires
+    (λ c κs. search needs) (λ c κs. search needs) (λ c κs. search needs)
     returns
-    has-free-requires
-    next-requires
-    cast-two-words
-    two-words-requires
-    without-next-requires
-    pools-with-requires
-    cast-i
-    with-runner-waiting-requires
-    of-requires
-    mul-h
-    element-set-from-h
-    carried-requires
+    (λ c κs. search needs) (λ c κs. search needs) (λ c. search needs) (λ c κs. search needs)
+    (λ c κs. search needs) (λ c κs. search needs) (λ c. search needs) (λ c κs. search needs)
+    (λ c κs. search needs) (λ c. search needs) (λ c. search needs) (λ c κs. search needs)
     returns-2)

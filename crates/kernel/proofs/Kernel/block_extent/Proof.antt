@@ -6,12 +6,6 @@ use Rattle.kernel.specs.Views.{blockExtent}
 use Rattle.kernel.proofs.Kernel.block_extent.Statement.{statement}
 use Rattle.kernel.proofs.Kernel.block_extent.Tie as tie
 
-viewed-pool-requires : tie.Need-viewed-pool-requires
-viewed-pool-requires c κs = search needs
-
-block-extent-requires : tie.Need-block-extent-requires
-block-extent-requires c κs = search needs
-
 returns : tie.Need-returns
 unfolding blockExtent
 returns c =
@@ -19,4 +13,5 @@ returns c =
     c .block-extent .ensures ∙ ap (λ (p : Pool). extentOf p (a .block) (a .len)) (c .before .viewed-pool .ensures)
 
 pub block-extent-spec : {M : Type 1} → statement M
-block-extent-spec = tie.close (tie.spec viewed-pool-requires block-extent-requires returns)
+block-extent-spec =
+    tie.close (tie.spec (λ c κs. search needs) (λ c κs. search needs) returns)

@@ -12,30 +12,12 @@ use Rattle.kernel.proofs.Laws.Answers.{is-refused, is-carried, first-no
 use Rattle.kernel.proofs.Kernel.block_pool_create.Statement.{statement}
 use Rattle.kernel.proofs.Kernel.block_pool_create.Tie as tie
 
-pool-in-requires : tie.Need-pool-in-requires
-pool-in-requires c κs = search needs
-
-pool-create-requires : tie.Need-pool-create-requires
-pool-create-requires c κs = search needs
-
-refused-requires : tie.Need-refused-requires
-refused-requires c κs = search needs
-
 returns : tie.Need-returns
 unfolding poolCreate poolAt
 returns c =
     let a = c .before .before .before .before .before .args in
     let e = c .before .before .pool-create .ensures ∙ ap (λ (x : Pool). poolCreateRefusal (a .n .0) x (a .block) (a .total) (a .caller)) (c .before .before .before .pool-in .ensures) in
     c .refused .ensures ∙ ap answerOf (ap (refused (a .self)) e ∙ sym (is-refused (a .self) (poolCreateRefusal (a .n .0) (poolAt (a .self) (a .n .0)) (a .block) (a .total) (a .caller)) _ (λ w. c .before .if1 .taken (e ∙ w))))
-
-of-requires : tie.Need-of-requires
-of-requires c κs = search needs
-
-pools-with-requires : tie.Need-pools-with-requires
-pools-with-requires c κs = search needs
-
-carried-requires : tie.Need-carried-requires
-carried-requires c κs = search needs
 
 returns-2 : tie.Need-returns-2
 unfolding poolCreate poolCreateRefusal answerOf carried answered withScheduler withPool poolAt
@@ -51,11 +33,7 @@ pub block-pool-create-spec : {M : Type 1} → statement M
 block-pool-create-spec =
     tie.close
     (tie.spec
-    pool-in-requires
-    pool-create-requires
-    refused-requires
+    (λ c κs. search needs) (λ c κs. search needs) (λ c κs. search needs)
     returns
-    of-requires
-    pools-with-requires
-    carried-requires
+    (λ c κs. search needs) (λ c κs. search needs) (λ c κs. search needs)
     returns-2)

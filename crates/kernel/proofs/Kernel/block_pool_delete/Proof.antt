@@ -15,36 +15,12 @@ use Rattle.kernel.proofs.Laws.Answers.{is-refused, is-carried}
 use Rattle.kernel.proofs.Kernel.block_pool_delete.Statement.{statement}
 use Rattle.kernel.proofs.Kernel.block_pool_delete.Tie as tie
 
-pool-in-requires : tie.Need-pool-in-requires
-pool-in-requires c κs = search needs
-
-pool-delete-requires : tie.Need-pool-delete-requires
-pool-delete-requires c κs = search needs
-
-refused-requires : tie.Need-refused-requires
-refused-requires c κs = search needs
-
 returns : tie.Need-returns
 unfolding poolDelete poolAt
 returns c =
     let a = c .before .before .before .before .before .args in
     let e = c .before .before .pool-delete .ensures ∙ ap (λ (x : Pool). poolDeleteRefusal x (a .caller)) (c .before .before .before .pool-in .ensures) in
     c .refused .ensures ∙ ap answerOf (ap (refused (a .self)) e ∙ sym (is-refused (a .self) (poolDeleteRefusal (poolAt (a .self) (a .n .0)) (a .caller)) _ (λ w. c .before .if1 .taken (e ∙ w))))
-
-place-requires : tie.Need-place-requires
-place-requires c κs = search needs
-
-line-at-requires : tie.Need-line-at-requires
-line-at-requires c κs = search needs
-
-none-requires : tie.Need-none-requires
-none-requires c κs = search needs
-
-pools-with-requires : tie.Need-pools-with-requires
-pools-with-requires c κs = search needs
-
-ended-each-requires : tie.Need-ended-each-requires
-ended-each-requires c κs = search needs
 
 returns-2 : tie.Need-returns-2
 unfolding poolDelete poolAt withPool
@@ -60,13 +36,8 @@ pub block-pool-delete-spec : {M : Type 1} → statement M
 block-pool-delete-spec =
     tie.close
     (tie.spec
-    pool-in-requires
-    pool-delete-requires
-    refused-requires
+    (λ c κs. search needs) (λ c κs. search needs) (λ c κs. search needs)
     returns
-    place-requires
-    line-at-requires
-    none-requires
-    pools-with-requires
-    ended-each-requires
+    (λ c κs. search needs) (λ c κs. search needs) (λ c κs. search needs) (λ c κs. search needs)
+    (λ c κs. search needs)
     returns-2)

@@ -9,30 +9,12 @@ use Rattle.kernel.proofs.Laws.Answers.{is-refused, is-carried}
 use Rattle.kernel.proofs.Kernel.block_pool_prioritize.Statement.{statement}
 use Rattle.kernel.proofs.Kernel.block_pool_prioritize.Tie as tie
 
-pool-in-requires : tie.Need-pool-in-requires
-pool-in-requires c κs = search needs
-
-pool-requires : tie.Need-pool-requires
-pool-requires c κs = search needs
-
-refused-requires : tie.Need-refused-requires
-refused-requires c κs = search needs
-
 returns : tie.Need-returns
 unfolding poolPrioritize poolAt
 returns c =
     let a = c .before .before .before .before .before .args in
     let e = c .before .before .pool .ensures ∙ ap (λ (x : Pool). poolRefusal x) (c .before .before .before .pool-in .ensures) in
     c .refused .ensures ∙ ap answerOf (ap (refused (a .self)) e ∙ sym (is-refused (a .self) (poolRefusal (poolAt (a .self) (a .n .0))) _ (λ w. c .before .if1 .taken (e ∙ w))))
-
-place-requires : tie.Need-place-requires
-place-requires c κs = search needs
-
-prioritised-requires : tie.Need-prioritised-requires
-prioritised-requires c κs = search needs
-
-carried-requires : tie.Need-carried-requires
-carried-requires c κs = search needs
 
 returns-2 : tie.Need-returns-2
 unfolding poolPrioritize answerOf carried answered withScheduler poolAt
@@ -46,11 +28,7 @@ pub block-pool-prioritize-spec : {M : Type 1} → statement M
 block-pool-prioritize-spec =
     tie.close
     (tie.spec
-    pool-in-requires
-    pool-requires
-    refused-requires
+    (λ c κs. search needs) (λ c κs. search needs) (λ c κs. search needs)
     returns
-    place-requires
-    prioritised-requires
-    carried-requires
+    (λ c κs. search needs) (λ c κs. search needs) (λ c κs. search needs)
     returns-2)

@@ -16,54 +16,12 @@ use Rattle.kernel.proofs.Laws.Answers.{is-refused, is-carried}
 use Rattle.kernel.proofs.Kernel.block_release.Statement.{statement}
 use Rattle.kernel.proofs.Kernel.block_release.Tie as tie
 
-pool-in-requires : tie.Need-pool-in-requires
-pool-in-requires c κs = search needs
-
-release-requires : tie.Need-release-requires
-release-requires c κs = search needs
-
-refused-requires : tie.Need-refused-requires
-refused-requires c κs = search needs
-
 returns : tie.Need-returns
 unfolding blockRelease poolAt
 returns c =
     let a = c .before .before .before .before .before .args in
     let e = c .before .before .release .ensures ∙ ap (λ (x : Pool). releaseRefusal x (a .block)) (c .before .before .before .pool-in .ensures) in
     c .refused .ensures ∙ ap answerOf (ap (refused (a .t1)) e ∙ sym (is-refused (a .t1) (releaseRefusal (poolAt (a .t1) (a .n .0)) (a .block)) _ (λ w. c .before .if1 .taken (e ∙ w))))
-
-place-requires : tie.Need-place-requires
-place-requires c κs = search needs
-
-first-at-requires : tie.Need-first-at-requires
-first-at-requires c κs = search needs
-
-cast-i : tie.Need-cast-i
-cast-i c = search needs
-
-two-words-requires : tie.Need-two-words-requires
-two-words-requires c κs = search needs
-
-of-requires : tie.Need-of-requires
-of-requires c κs = search needs
-
-mul-h : tie.Need-mul-h
-mul-h c = search needs
-
-element-set-from-h : tie.Need-element-set-from-h
-element-set-from-h c = search needs
-
-woken-requires : tie.Need-woken-requires
-woken-requires c κs = search needs
-
-with-free-requires : tie.Need-with-free-requires
-with-free-requires c κs = search needs
-
-pools-with-requires : tie.Need-pools-with-requires
-pools-with-requires c κs = search needs
-
-carried-requires : tie.Need-carried-requires
-carried-requires c κs = search needs
 
 returns-2 : tie.Need-returns-2
 unfolding blockRelease endWait answerOf carried answered withHeld withScheduler withPool poolAt
@@ -84,19 +42,9 @@ pub block-release-spec : {M : Type 1} → statement M
 block-release-spec =
     tie.close
     (tie.spec
-    pool-in-requires
-    release-requires
-    refused-requires
+    (λ c κs. search needs) (λ c κs. search needs) (λ c κs. search needs)
     returns
-    place-requires
-    first-at-requires
-    cast-i
-    two-words-requires
-    of-requires
-    mul-h
-    element-set-from-h
-    woken-requires
-    with-free-requires
-    pools-with-requires
-    carried-requires
+    (λ c κs. search needs) (λ c κs. search needs) (λ c. search needs) (λ c κs. search needs)
+    (λ c κs. search needs) (λ c. search needs) (λ c. search needs) (λ c κs. search needs) (λ c κs. search needs)
+    (λ c κs. search needs) (λ c κs. search needs)
     returns-2)

@@ -8,12 +8,6 @@ use Rattle.kernel.specs.Views.{blockView}
 use Rattle.kernel.proofs.Kernel.block_view.Statement.{statement}
 use Rattle.kernel.proofs.Kernel.block_view.Tie as tie
 
-viewed-pool-requires : tie.Need-viewed-pool-requires
-viewed-pool-requires c κs = search needs
-
-block-view-requires : tie.Need-block-view-requires
-block-view-requires c κs = search needs
-
 returns : tie.Need-returns
 unfolding blockView
 returns c =
@@ -22,4 +16,5 @@ returns c =
     (c .block-view .ensures .0 ∙ ap (λ (p : Pool). viewed p (a .block) (a .area .now)) e, λ v. c .block-view .ensures .1 (ap (λ (p : Pool). viewedb p (a .block) (length (a .area .now))) e ∙ v) ∙ ap (λ (p : Pool). onwards (blockStart p (a .block)) (a .area .ptr)) e)
 
 pub block-view-spec : {M : Type 1} → statement M
-block-view-spec = tie.close (tie.spec viewed-pool-requires block-view-requires returns)
+block-view-spec =
+    tie.close (tie.spec (λ c κs. search needs) (λ c κs. search needs) returns)

@@ -6,15 +6,6 @@ use Rattle.kernel.specs.Views.{blockWritten}
 use Rattle.kernel.proofs.Kernel.block_write.Statement.{statement}
 use Rattle.kernel.proofs.Kernel.block_write.Tie as tie
 
-viewed-pool-requires : tie.Need-viewed-pool-requires
-viewed-pool-requires c κs = search needs
-
-block-write-requires : tie.Need-block-write-requires
-block-write-requires c κs = search needs
-
-same-length : tie.Need-same-length
-same-length c = search needs
-
 returns : tie.Need-returns
 unfolding blockWritten
 returns c =
@@ -23,4 +14,4 @@ returns c =
 
 pub block-write-spec : {M : Type 1} → statement M
 block-write-spec =
-    tie.close (tie.spec viewed-pool-requires block-write-requires same-length returns)
+    tie.close (tie.spec (λ c κs. search needs) (λ c κs. search needs) (λ c. search needs) returns)

@@ -5,12 +5,10 @@ use Rattle.kernel.specs.Answers.{answered}
 use Rattle.kernel.proofs.Kernel.carried.Statement.{statement}
 use Rattle.kernel.proofs.Kernel.carried.Tie as tie
 
-rescheduled-requires : tie.Need-rescheduled-requires
-rescheduled-requires c κs = search needs
-
 returns : tie.Need-returns
 unfolding answered withScheduler
 returns c = rw (c .before .rescheduled .ensures)
 
 pub carried-spec : {M : Type 1} → statement M
-carried-spec = tie.close (tie.spec rescheduled-requires returns)
+carried-spec =
+    tie.close (tie.spec (λ c κs. search needs) returns)

@@ -10,7 +10,6 @@ use Rattle.scheduler.specs.Orders.{woken}
 use Rattle.scheduler.proofs.Laws.Threads.{length-mapped}
 use Rattle.calls.specs.declared.held.Held.{Held}
 use Rattle.calls.specs.Held.{noWords, holding}
-use Rattle.kernel.specs.declared.Kernel.{Kernel}
 use Rattle.kernel.specs.Tables.{withScheduler, withHeld}
 use Rattle.kernel.specs.Answers.{answerOf, carried, answered}
 use Rattle.kernel.specs.Waits.{endEach}
@@ -27,15 +26,6 @@ Inv-loop status self₀ ids n h s₀ i₀ self s i = (i ≤ n) × (n ≤ 32) × 
 abbrev μ-loop : tie.MeasureT-loop
 μ-loop status self₀ ids n h s₀ i₀ self s i = n - i
 
-size-requires : tie.Need-size-requires Inv-loop μ-loop
-size-requires c κs = search needs
-
-cast-n : tie.Need-cast-n Inv-loop μ-loop
-cast-n c = search needs
-
-of-requires : tie.Need-of-requires Inv-loop μ-loop
-of-requires c κs = search needs
-
 loop-holds : tie.Need-loop-holds Inv-loop μ-loop
 unfolding endEach withScheduler
 loop-holds c =
@@ -44,27 +34,6 @@ loop-holds c =
     let o : length (a .line .ids) ≡ 32 = search needs in
     let w = length-members (a .line) o in
     (omega arith, omega (arith, z, w), o, search length-mapped, refl)
-
-array-read-x : tie.Need-array-read-x Inv-loop μ-loop
-array-read-x c = search needs
-
-cast-t : tie.Need-cast-t Inv-loop μ-loop
-cast-t c = search needs
-
-add-i : tie.Need-add-i Inv-loop μ-loop
-add-i c = search needs
-
-woken-requires : tie.Need-woken-requires Inv-loop μ-loop
-woken-requires c κs = search needs
-
-mul-h : tie.Need-mul-h Inv-loop μ-loop
-mul-h c = search needs
-
-element-set-from-h : tie.Need-element-set-from-h Inv-loop μ-loop
-element-set-from-h c = search needs
-
-loop-less : tie.Need-loop-less Inv-loop μ-loop
-loop-less c = search needs
 
 loop-again : tie.Need-loop-again Inv-loop μ-loop
 unfolding withScheduler withHeld holding
@@ -77,9 +46,6 @@ loop-again c =
     let g : v ≡ holding (a .status) (v .words) = c .before .before .before .before .before .of .ensures ∙ sym (ap (λ (y : Held). holding (a .status) (y .words)) (c .before .before .before .before .before .of .ensures)) in
     (omega arith, omega arith, l .inv .2, simp length-set (l .inv .3), rw (c .before .woken .ensures) ((λ j. withHeld (withScheduler (l .self) (woken (l .s) x)) x (g j)) ∙ each-step (a .t1) (l .self) (l .s) (a .status) (v .words) (a .line .ids) (l .i) h (l .inv .4)))
 
-loop-less-2 : tie.Need-loop-less-2 Inv-loop μ-loop
-loop-less-2 c = search needs
-
 loop-again-2 : tie.Need-loop-again-2 Inv-loop μ-loop
 unfolding withScheduler withHeld
 loop-again-2 c =
@@ -89,12 +55,6 @@ loop-again-2 c =
     let h : l .i < length (a .line .ids) = omega arith in
     let v = c .before .before .before .before .before .of .result in
     (omega arith, omega arith, l .inv .2, l .inv .3, rw (c .before .woken .ensures) (sym (held-out (withScheduler (l .self) (woken (l .s) x)) x (holding (a .status) (v .words)) (l .inv .3) (c .if1 .left)) ∙ each-step (a .t1) (l .self) (l .s) (a .status) (v .words) (a .line .ids) (l .i) h (l .inv .4)))
-
-cast-carried : tie.Need-cast-carried Inv-loop μ-loop
-cast-carried c = search needs
-
-carried-requires : tie.Need-carried-requires Inv-loop μ-loop
-carried-requires c κs = search needs
 
 returns : tie.Need-returns Inv-loop μ-loop
 unfolding answerOf carried answered withScheduler holding
@@ -111,20 +71,12 @@ ended-each-spec =
     (tie.spec
     Inv-loop
     μ-loop
-    size-requires
-    cast-n
-    of-requires
+    (λ c κs. search needs) (λ c. search needs) (λ c κs. search needs)
     loop-holds
-    array-read-x
-    cast-t
-    add-i
-    woken-requires
-    mul-h
-    element-set-from-h
-    loop-less
+    (λ c. search needs) (λ c. search needs) (λ c. search needs) (λ c κs. search needs) (λ c. search needs)
+    (λ c. search needs) (λ c. search needs)
     loop-again
-    loop-less-2
+    (λ c. search needs)
     loop-again-2
-    cast-carried
-    carried-requires
+    (λ c. search needs) (λ c κs. search needs)
     returns)

@@ -10,15 +10,6 @@ use Rattle.kernel.proofs.Laws.Answers.{refused-for}
 use Rattle.kernel.proofs.Kernel.event_flags_create.Statement.{statement}
 use Rattle.kernel.proofs.Kernel.event_flags_create.Tie as tie
 
-group-in-requires : tie.Need-group-in-requires
-group-in-requires c κs = search needs
-
-group-create-requires : tie.Need-group-create-requires
-group-create-requires c κs = search needs
-
-refused-requires : tie.Need-refused-requires
-refused-requires c κs = search needs
-
 returns : tie.Need-returns
 unfolding groupCreate groupAt
 returns c =
@@ -26,15 +17,6 @@ returns c =
     let i : c .before .before .before .group-in .result ≡ groupAt (a .self) (a .n .0) = c .before .before .before .group-in .ensures in
     let e = c .before .before .group-create .ensures ∙ ap (λ (g : Group). groupCreateRefusal (a .n .0) g (a .caller)) i in
     c .refused .ensures ∙ ap answerOf (refused-for (a .self) (groupCreateRefusal (a .n .0) (groupAt (a .self) (a .n .0)) (a .caller)) (c .before .before .group-create .result) _ (sym e) (c .before .if1 .taken))
-
-of-requires : tie.Need-of-requires
-of-requires c κs = search needs
-
-groups-with-requires : tie.Need-groups-with-requires
-groups-with-requires c κs = search needs
-
-carried-requires : tie.Need-carried-requires
-carried-requires c κs = search needs
 
 returns-2 : tie.Need-returns-2
 unfolding groupCreate groupAt answerOf carried answered withScheduler withGroup
@@ -49,11 +31,7 @@ pub event-flags-create-spec : {M : Type 1} → statement M
 event-flags-create-spec =
     tie.close
     (tie.spec
-    group-in-requires
-    group-create-requires
-    refused-requires
+    (λ c κs. search needs) (λ c κs. search needs) (λ c κs. search needs)
     returns
-    of-requires
-    groups-with-requires
-    carried-requires
+    (λ c κs. search needs) (λ c κs. search needs) (λ c κs. search needs)
     returns-2)

@@ -16,15 +16,6 @@ use Rattle.kernel.proofs.Laws.Answers.{refused-for}
 use Rattle.kernel.proofs.Kernel.event_flags_delete.Statement.{statement}
 use Rattle.kernel.proofs.Kernel.event_flags_delete.Tie as tie
 
-group-in-requires : tie.Need-group-in-requires
-group-in-requires c κs = search needs
-
-group-delete-requires : tie.Need-group-delete-requires
-group-delete-requires c κs = search needs
-
-refused-requires : tie.Need-refused-requires
-refused-requires c κs = search needs
-
 returns : tie.Need-returns
 unfolding groupDelete groupAt
 returns c =
@@ -32,21 +23,6 @@ returns c =
     let i : c .before .before .before .group-in .result ≡ groupAt (a .self) (a .n .0) = c .before .before .before .group-in .ensures in
     let e = c .before .before .group-delete .ensures ∙ ap (λ (g : Group). groupDeleteRefusal g (a .caller)) i in
     c .refused .ensures ∙ ap answerOf (refused-for (a .self) (groupDeleteRefusal (groupAt (a .self) (a .n .0)) (a .caller)) (c .before .before .group-delete .result) _ (sym e) (c .before .if1 .taken))
-
-place-requires : tie.Need-place-requires
-place-requires c κs = search needs
-
-line-at-requires : tie.Need-line-at-requires
-line-at-requires c κs = search needs
-
-none-requires : tie.Need-none-requires
-none-requires c κs = search needs
-
-groups-with-requires : tie.Need-groups-with-requires
-groups-with-requires c κs = search needs
-
-ended-each-requires : tie.Need-ended-each-requires
-ended-each-requires c κs = search needs
 
 returns-2 : tie.Need-returns-2
 unfolding groupDelete groupAt withGroup
@@ -63,13 +39,8 @@ pub event-flags-delete-spec : {M : Type 1} → statement M
 event-flags-delete-spec =
     tie.close
     (tie.spec
-    group-in-requires
-    group-delete-requires
-    refused-requires
+    (λ c κs. search needs) (λ c κs. search needs) (λ c κs. search needs)
     returns
-    place-requires
-    line-at-requires
-    none-requires
-    groups-with-requires
-    ended-each-requires
+    (λ c κs. search needs) (λ c κs. search needs) (λ c κs. search needs) (λ c κs. search needs)
+    (λ c κs. search needs)
     returns-2)

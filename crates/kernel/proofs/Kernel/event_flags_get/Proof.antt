@@ -18,15 +18,6 @@ use Rattle.kernel.proofs.Laws.Answers.{is-carried, first-none, second-n
 use Rattle.kernel.proofs.Kernel.event_flags_get.Statement.{statement}
 use Rattle.kernel.proofs.Kernel.event_flags_get.Tie as tie
 
-group-in-requires : tie.Need-group-in-requires
-group-in-requires c κs = search needs
-
-flags-get-requires : tie.Need-flags-get-requires
-flags-get-requires c κs = search needs
-
-refused-requires : tie.Need-refused-requires
-refused-requires c κs = search needs
-
 returns : tie.Need-returns
 unfolding groupGet groupAt
 returns c =
@@ -34,45 +25,6 @@ returns c =
     let i : c .before .before .before .group-in .result ≡ groupAt (a .t1) (a .n .0) = c .before .before .before .group-in .ensures in
     let e = c .before .before .flags-get .ensures ∙ ap (λ (g : Group). getRefusal g (a .request) (a .option) (a .wait) (a .caller)) i in
     c .refused .ensures ∙ ap answerOf (refused-for (a .t1) (getRefusal (groupAt (a .t1) (a .n .0)) (a .request) (a .option) (a .wait) (a .caller)) (c .before .before .flags-get .result) _ (sym e) (c .before .if1 .taken))
-
-option-of-requires : tie.Need-option-of-requires
-option-of-requires c κs = search needs
-
-is-met-requires : tie.Need-is-met-requires
-is-met-requires c κs = search needs
-
-two-words-requires : tie.Need-two-words-requires
-two-words-requires c κs = search needs
-
-cleared-by-requires : tie.Need-cleared-by-requires
-cleared-by-requires c κs = search needs
-
-less-requires : tie.Need-less-requires
-less-requires c κs = search needs
-
-of-requires : tie.Need-of-requires
-of-requires c κs = search needs
-
-groups-with-requires : tie.Need-groups-with-requires
-groups-with-requires c κs = search needs
-
-cast-i : tie.Need-cast-i
-cast-i c = search needs
-
-with-runner-waiting-requires : tie.Need-with-runner-waiting-requires
-with-runner-waiting-requires c κs = search needs
-
-requester-requires : tie.Need-requester-requires
-requester-requires c κs = search needs
-
-mul-h : tie.Need-mul-h
-mul-h c = search needs
-
-element-set-from-h : tie.Need-element-set-from-h
-element-set-from-h c = search needs
-
-carried-requires : tie.Need-carried-requires
-carried-requires c κs = search needs
 
 returns-2 : tie.Need-returns-2
 unfolding groupGet startWait groupAt getRefusal answerOf carried answered withScheduler withHeld withGroup
@@ -99,21 +51,9 @@ pub event-flags-get-spec : {M : Type 1} → statement M
 event-flags-get-spec =
     tie.close
     (tie.spec
-    group-in-requires
-    flags-get-requires
-    refused-requires
+    (λ c κs. search needs) (λ c κs. search needs) (λ c κs. search needs)
     returns
-    option-of-requires
-    is-met-requires
-    two-words-requires
-    cleared-by-requires
-    less-requires
-    of-requires
-    groups-with-requires
-    cast-i
-    with-runner-waiting-requires
-    requester-requires
-    mul-h
-    element-set-from-h
-    carried-requires
+    (λ c κs. search needs) (λ c κs. search needs) (λ c κs. search needs) (λ c κs. search needs)
+    (λ c κs. search needs) (λ c κs. search needs) (λ c κs. search needs) (λ c. search needs)
+    (λ c κs. search needs) (λ c κs. search needs) (λ c. search needs) (λ c. search needs) (λ c κs. search needs)
     returns-2)

@@ -12,15 +12,6 @@ use lib.Bits.{bitOr}
 use Rattle.kernel.proofs.Kernel.event_flags_set.Statement.{statement}
 use Rattle.kernel.proofs.Kernel.event_flags_set.Tie as tie
 
-group-in-requires : tie.Need-group-in-requires
-group-in-requires c κs = search needs
-
-flags-set-requires : tie.Need-flags-set-requires
-flags-set-requires c κs = search needs
-
-refused-requires : tie.Need-refused-requires
-refused-requires c κs = search needs
-
 returns : tie.Need-returns
 unfolding groupSet groupAt
 returns c =
@@ -28,9 +19,6 @@ returns c =
     let i : c .before .before .before .group-in .result ≡ groupAt (a .self) (a .n .0) = c .before .before .before .group-in .ensures in
     let e = c .before .before .flags-set .ensures ∙ ap (λ (g : Group). setRefusal g (a .option)) i in
     c .refused .ensures ∙ ap answerOf (refused-for (a .self) (setRefusal (groupAt (a .self) (a .n .0)) (a .option)) (c .before .before .flags-set .result) _ (sym e) (c .before .if1 .taken))
-
-set-or-requires : tie.Need-set-or-requires
-set-or-requires c κs = search needs
 
 returns-2 : tie.Need-returns-2
 unfolding groupSet groupAt
@@ -40,15 +28,6 @@ returns-2 c =
     let e = c .before .before .before .before .flags-set .ensures ∙ ap (λ (g : Group). setRefusal g (a .option)) i in
     let z : setRefusal (groupAt (a .self) (a .n .0)) (a .option) ≡ 0 = sym e ∙ c .before .before .before .if1 .left in
     rw (is-carried, eq-eqb (a .option) 0 (c .before .before .if2 .taken)) (c .set-or .ensures ∙ ap (λ (g : Group). answerOf (setOr (a .self) (a .n .0) (bitOr (g .flags) (a .flags)))) i)
-
-of-requires : tie.Need-of-requires
-of-requires c κs = search needs
-
-groups-with-requires : tie.Need-groups-with-requires
-groups-with-requires c κs = search needs
-
-carried-requires : tie.Need-carried-requires
-carried-requires c κs = search needs
 
 returns-3 : tie.Need-returns-3
 unfolding groupSet groupAt setAnd answerOf carried answered withScheduler withGroup
@@ -63,13 +42,9 @@ pub event-flags-set-spec : {M : Type 1} → statement M
 event-flags-set-spec =
     tie.close
     (tie.spec
-    group-in-requires
-    flags-set-requires
-    refused-requires
+    (λ c κs. search needs) (λ c κs. search needs) (λ c κs. search needs)
     returns
-    set-or-requires
+    (λ c κs. search needs)
     returns-2
-    of-requires
-    groups-with-requires
-    carried-requires
+    (λ c κs. search needs) (λ c κs. search needs) (λ c κs. search needs)
     returns-3)

@@ -11,18 +11,6 @@ use Rattle.kernel.proofs.Laws.Answers.{held-out}
 use Rattle.kernel.proofs.Kernel.held_carried.Statement.{statement}
 use Rattle.kernel.proofs.Kernel.held_carried.Tie as tie
 
-cast-i : tie.Need-cast-i
-cast-i c = search needs
-
-mul-h : tie.Need-mul-h
-mul-h c = search needs
-
-element-set-from-h : tie.Need-element-set-from-h
-element-set-from-h c = search needs
-
-carried-requires : tie.Need-carried-requires
-carried-requires c κs = search needs
-
 returns : tie.Need-returns
 unfolding withHeld
 returns c =
@@ -32,4 +20,8 @@ returns c =
     c .carried .ensures ∙ ap (λ (k : Kernel). answered k (a .s) (a .status) noWords (a .ended)) m
 
 pub held-carried-spec : {M : Type 1} → statement M
-held-carried-spec = tie.close (tie.spec cast-i mul-h element-set-from-h carried-requires returns)
+held-carried-spec =
+    tie.close
+    (tie.spec
+    (λ c. search needs) (λ c. search needs) (λ c. search needs) (λ c κs. search needs)
+    returns)

@@ -15,36 +15,12 @@ use Rattle.kernel.proofs.Laws.Answers.{is-refused, is-carried, first-no
 use Rattle.kernel.proofs.Kernel.queue_create.Statement.{statement}
 use Rattle.kernel.proofs.Kernel.queue_create.Tie as tie
 
-queue-in-requires : tie.Need-queue-in-requires
-queue-in-requires c κs = search needs
-
-queue-create-requires : tie.Need-queue-create-requires
-queue-create-requires c κs = search needs
-
-refused-requires : tie.Need-refused-requires
-refused-requires c κs = search needs
-
 returns : tie.Need-returns
 unfolding queueCreate queueAt
 returns c =
     let a = c .before .before .before .before .before .args in
     let e = c .before .before .queue-create .ensures ∙ ap (λ (q : Queue). queueCreateRefusal (a .n .0) q (a .words) (a .storage) (a .caller)) (c .before .before .before .queue-in .ensures) in
     c .refused .ensures ∙ ap answerOf (ap (refused (a .t1)) e ∙ sym (is-refused (a .t1) (queueCreateRefusal (a .n .0) (queueAt (a .t1) (a .n .0)) (a .words) (a .storage) (a .caller)) _ (λ w. c .before .if1 .taken (e ∙ w))))
-
-of-requires : tie.Need-of-requires
-of-requires c κs = search needs
-
-cast-i : tie.Need-cast-i
-cast-i c = search needs
-
-mul-q : tie.Need-mul-q
-mul-q c = search needs
-
-element-set-from-q : tie.Need-element-set-from-q
-element-set-from-q c = search needs
-
-carried-requires : tie.Need-carried-requires
-carried-requires c κs = search needs
 
 returns-2 : tie.Need-returns-2
 unfolding queueCreate queueCreateRefusal answerOf carried answered withScheduler withQueue queueAt
@@ -62,13 +38,7 @@ pub queue-create-spec : {M : Type 1} → statement M
 queue-create-spec =
     tie.close
     (tie.spec
-    queue-in-requires
-    queue-create-requires
-    refused-requires
+    (λ c κs. search needs) (λ c κs. search needs) (λ c κs. search needs)
     returns
-    of-requires
-    cast-i
-    mul-q
-    element-set-from-q
-    carried-requires
+    (λ c κs. search needs) (λ c. search needs) (λ c. search needs) (λ c. search needs) (λ c κs. search needs)
     returns-2)

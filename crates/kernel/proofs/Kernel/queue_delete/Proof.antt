@@ -9,27 +9,12 @@ use Rattle.kernel.proofs.Laws.Answers.{is-refused, is-carried}
 use Rattle.kernel.proofs.Kernel.queue_delete.Statement.{statement}
 use Rattle.kernel.proofs.Kernel.queue_delete.Tie as tie
 
-queue-in-requires : tie.Need-queue-in-requires
-queue-in-requires c κs = search needs
-
-queue-delete-requires : tie.Need-queue-delete-requires
-queue-delete-requires c κs = search needs
-
-refused-requires : tie.Need-refused-requires
-refused-requires c κs = search needs
-
 returns : tie.Need-returns
 unfolding queueDelete queueAt
 returns c =
     let a = c .before .before .before .before .before .args in
     let e = c .before .before .queue-delete .ensures ∙ ap (λ (q : Queue). queueDeleteRefusal q (a .caller)) (c .before .before .before .queue-in .ensures) in
     c .refused .ensures ∙ ap answerOf (ap (refused (a .self)) e ∙ sym (is-refused (a .self) (queueDeleteRefusal (queueAt (a .self) (a .n .0)) (a .caller)) _ (λ w. c .before .if1 .taken (e ∙ w))))
-
-none-requires : tie.Need-none-requires
-none-requires c κs = search needs
-
-queue-ended-requires : tie.Need-queue-ended-requires
-queue-ended-requires c κs = search needs
 
 returns-2 : tie.Need-returns-2
 unfolding queueDelete queueAt
@@ -44,10 +29,7 @@ pub queue-delete-spec : {M : Type 1} → statement M
 queue-delete-spec =
     tie.close
     (tie.spec
-    queue-in-requires
-    queue-delete-requires
-    refused-requires
+    (λ c κs. search needs) (λ c κs. search needs) (λ c κs. search needs)
     returns
-    none-requires
-    queue-ended-requires
+    (λ c κs. search needs) (λ c κs. search needs)
     returns-2)

@@ -16,24 +16,6 @@ use Rattle.kernel.proofs.Laws.Answers.{queue-out}
 use Rattle.kernel.proofs.Kernel.queue_ended.Statement.{statement}
 use Rattle.kernel.proofs.Kernel.queue_ended.Tie as tie
 
-place-requires : tie.Need-place-requires
-place-requires c κs = search needs
-
-line-at-requires : tie.Need-line-at-requires
-line-at-requires c κs = search needs
-
-cast-i : tie.Need-cast-i
-cast-i c = search needs
-
-mul-q : tie.Need-mul-q
-mul-q c = search needs
-
-element-set-from-q : tie.Need-element-set-from-q
-element-set-from-q c = search needs
-
-ended-each-requires : tie.Need-ended-each-requires
-ended-each-requires c κs = search needs
-
 returns : tie.Need-returns
 unfolding endQueue withQueue
 returns c =
@@ -48,10 +30,6 @@ pub queue-ended-spec : {M : Type 1} → statement M
 queue-ended-spec =
     tie.close
     (tie.spec
-    place-requires
-    line-at-requires
-    cast-i
-    mul-q
-    element-set-from-q
-    ended-each-requires
+    (λ c κs. search needs) (λ c κs. search needs) (λ c. search needs) (λ c. search needs) (λ c. search needs)
+    (λ c κs. search needs)
     returns)

@@ -11,27 +11,12 @@ use Rattle.kernel.proofs.Laws.Answers.{is-refused, is-carried}
 use Rattle.kernel.proofs.Kernel.queue_flush.Statement.{statement}
 use Rattle.kernel.proofs.Kernel.queue_flush.Tie as tie
 
-queue-in-requires : tie.Need-queue-in-requires
-queue-in-requires c κs = search needs
-
-queue-requires : tie.Need-queue-requires
-queue-requires c κs = search needs
-
-refused-requires : tie.Need-refused-requires
-refused-requires c κs = search needs
-
 returns : tie.Need-returns
 unfolding queueFlush queueAt
 returns c =
     let a = c .before .before .before .before .before .args in
     let e = c .before .before .queue .ensures ∙ ap (λ (q : Queue). queueRefusal q) (c .before .before .before .queue-in .ensures) in
     c .refused .ensures ∙ ap answerOf (ap (refused (a .self)) e ∙ sym (is-refused (a .self) (queueRefusal (queueAt (a .self) (a .n .0))) _ (λ w. c .before .if1 .taken (e ∙ w))))
-
-is-empty-requires : tie.Need-is-empty-requires
-is-empty-requires c κs = search needs
-
-carried-requires : tie.Need-carried-requires
-carried-requires c κs = search needs
 
 returns-2 : tie.Need-returns-2
 unfolding queueFlush answerOf carried answered withScheduler queueAt
@@ -42,12 +27,6 @@ returns-2 c =
     let z : queueRefusal (queueAt (a .self) (a .n .0)) ≡ 0 = sym e ∙ c .before .before .before .before .if1 .left in
     let t : emptyb (queueAt (a .self) (a .n .0)) ≡ true = sym (c .before .before .before .is-empty .ensures ∙ ap emptyb i) ∙ c .before .before .if2 .taken in
     rw (is-carried, t) (c .carried .ensures)
-
-flushed-requires : tie.Need-flushed-requires
-flushed-requires c κs = search needs
-
-queue-ended-requires : tie.Need-queue-ended-requires
-queue-ended-requires c κs = search needs
 
 returns-3 : tie.Need-returns-3
 unfolding queueFlush queueAt
@@ -63,13 +42,9 @@ pub queue-flush-spec : {M : Type 1} → statement M
 queue-flush-spec =
     tie.close
     (tie.spec
-    queue-in-requires
-    queue-requires
-    refused-requires
+    (λ c κs. search needs) (λ c κs. search needs) (λ c κs. search needs)
     returns
-    is-empty-requires
-    carried-requires
+    (λ c κs. search needs) (λ c κs. search needs)
     returns-2
-    flushed-requires
-    queue-ended-requires
+    (λ c κs. search needs) (λ c κs. search needs)
     returns-3)

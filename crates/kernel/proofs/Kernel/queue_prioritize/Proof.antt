@@ -9,30 +9,12 @@ use Rattle.kernel.proofs.Laws.Answers.{is-refused, is-carried}
 use Rattle.kernel.proofs.Kernel.queue_prioritize.Statement.{statement}
 use Rattle.kernel.proofs.Kernel.queue_prioritize.Tie as tie
 
-queue-in-requires : tie.Need-queue-in-requires
-queue-in-requires c κs = search needs
-
-queue-requires : tie.Need-queue-requires
-queue-requires c κs = search needs
-
-refused-requires : tie.Need-refused-requires
-refused-requires c κs = search needs
-
 returns : tie.Need-returns
 unfolding queuePrioritize queueAt
 returns c =
     let a = c .before .before .before .before .before .args in
     let e = c .before .before .queue .ensures ∙ ap (λ (q : Queue). queueRefusal q) (c .before .before .before .queue-in .ensures) in
     c .refused .ensures ∙ ap answerOf (ap (refused (a .self)) e ∙ sym (is-refused (a .self) (queueRefusal (queueAt (a .self) (a .n .0))) _ (λ w. c .before .if1 .taken (e ∙ w))))
-
-place-requires : tie.Need-place-requires
-place-requires c κs = search needs
-
-prioritised-requires : tie.Need-prioritised-requires
-prioritised-requires c κs = search needs
-
-carried-requires : tie.Need-carried-requires
-carried-requires c κs = search needs
 
 returns-2 : tie.Need-returns-2
 unfolding queuePrioritize answerOf carried answered withScheduler queueAt
@@ -47,11 +29,7 @@ pub queue-prioritize-spec : {M : Type 1} → statement M
 queue-prioritize-spec =
     tie.close
     (tie.spec
-    queue-in-requires
-    queue-requires
-    refused-requires
+    (λ c κs. search needs) (λ c κs. search needs) (λ c κs. search needs)
     returns
-    place-requires
-    prioritised-requires
-    carried-requires
+    (λ c κs. search needs) (λ c κs. search needs) (λ c κs. search needs)
     returns-2)

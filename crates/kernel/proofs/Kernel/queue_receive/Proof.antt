@@ -47,90 +47,12 @@ unfolding receiveFrom answerOf carried answered withScheduler withQueue
 from-store k y n wait q left s words ended t f e o a b c d w =
     (λ j. answered (withQueue (a j) n (b j)) (c j) success (d j) (w j)) ∙ rw (e, ← f, le-ltb t 32 o)
 
-queue-in-requires : tie.Need-queue-in-requires
-queue-in-requires c κs = search needs
-
-receive-requires : tie.Need-receive-requires
-receive-requires c κs = search needs
-
-refused-requires : tie.Need-refused-requires
-refused-requires c κs = search needs
-
 returns : tie.Need-returns
 unfolding queueReceive queueAt
 returns c =
     let a = c .before .before .before .before .before .args in
     let e = c .before .before .receive .ensures ∙ ap (λ (q : Queue). receiveRefusal q (a .wait) (a .caller)) (c .before .before .before .queue-in .ensures) in
     c .refused .ensures ∙ ap answerOf (ap (refused (a .t1)) e ∙ sym (is-refused (a .t1) (receiveRefusal (queueAt (a .t1) (a .n .0)) (a .wait) (a .caller)) _ (λ w. c .before .if1 .taken (e ∙ w))))
-
-is-empty-requires : tie.Need-is-empty-requires
-is-empty-requires c κs = search needs
-
-cast-i : tie.Need-cast-i
-cast-i c = search needs
-
-with-runner-waiting-requires : tie.Need-with-runner-waiting-requires
-with-runner-waiting-requires c κs = search needs
-
-of-requires : tie.Need-of-requires
-of-requires c κs = search needs
-
-mul-h : tie.Need-mul-h
-mul-h c = search needs
-
-element-set-from-h : tie.Need-element-set-from-h
-element-set-from-h c = search needs
-
-place-requires : tie.Need-place-requires
-place-requires c κs = search needs
-
-first-at-requires : tie.Need-first-at-requires
-first-at-requires c κs = search needs
-
-cast-i-2 : tie.Need-cast-i-2
-cast-i-2 c = search needs
-
-mul-sender : tie.Need-mul-sender
-mul-sender c = search needs
-
-element-copy-out-sender : tie.Need-element-copy-out-sender
-element-copy-out-sender c = search needs
-
-given-past-requires : tie.Need-given-past-requires
-given-past-requires c κs = search needs
-
-left-past-requires : tie.Need-left-past-requires
-left-past-requires c κs = search needs
-
-of-requires-2 : tie.Need-of-requires-2
-of-requires-2 c κs = search needs
-
-mul-h-2 : tie.Need-mul-h-2
-mul-h-2 c = search needs
-
-element-set-from-h-2 : tie.Need-element-set-from-h-2
-element-set-from-h-2 c = search needs
-
-woken-requires : tie.Need-woken-requires
-woken-requires c κs = search needs
-
-oldest-requires : tie.Need-oldest-requires
-oldest-requires c κs = search needs
-
-without-oldest-requires : tie.Need-without-oldest-requires
-without-oldest-requires c κs = search needs
-
-cast-j : tie.Need-cast-j
-cast-j c = search needs
-
-mul-left : tie.Need-mul-left
-mul-left c = search needs
-
-element-set-from-left : tie.Need-element-set-from-left
-element-set-from-left c = search needs
-
-carried-requires : tie.Need-carried-requires
-carried-requires c κs = search needs
 
 returns-2 : tie.Need-returns-2
 unfolding queueReceive queueAt receiveFrom startWait heldAt answerOf carried answered withScheduler withHeld withQueue
@@ -184,31 +106,11 @@ pub queue-receive-spec : {M : Type 1} → statement M
 queue-receive-spec =
     tie.close
     (tie.spec
-    queue-in-requires
-    receive-requires
-    refused-requires
+    (λ c κs. search needs) (λ c κs. search needs) (λ c κs. search needs)
     returns
-    is-empty-requires
-    cast-i
-    with-runner-waiting-requires
-    of-requires
-    mul-h
-    element-set-from-h
-    place-requires
-    first-at-requires
-    cast-i-2
-    mul-sender
-    element-copy-out-sender
-    given-past-requires
-    left-past-requires
-    of-requires-2
-    mul-h-2
-    element-set-from-h-2
-    woken-requires
-    oldest-requires
-    without-oldest-requires
-    cast-j
-    mul-left
-    element-set-from-left
-    carried-requires
+    (λ c κs. search needs) (λ c. search needs) (λ c κs. search needs) (λ c κs. search needs) (λ c. search needs)
+    (λ c. search needs) (λ c κs. search needs) (λ c κs. search needs) (λ c. search needs) (λ c. search needs)
+    (λ c. search needs) (λ c κs. search needs) (λ c κs. search needs) (λ c κs. search needs) (λ c. search needs)
+    (λ c. search needs) (λ c κs. search needs) (λ c κs. search needs) (λ c κs. search needs) (λ c. search needs)
+    (λ c. search needs) (λ c. search needs) (λ c κs. search needs)
     returns-2)

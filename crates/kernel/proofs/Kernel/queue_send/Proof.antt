@@ -17,78 +17,12 @@ use Rattle.kernel.proofs.Laws.Answers.{is-refused, is-carried, held-out
 use Rattle.kernel.proofs.Kernel.queue_send.Statement.{statement}
 use Rattle.kernel.proofs.Kernel.queue_send.Tie as tie
 
-queue-in-requires : tie.Need-queue-in-requires
-queue-in-requires c κs = search needs
-
-send-requires : tie.Need-send-requires
-send-requires c κs = search needs
-
-refused-requires : tie.Need-refused-requires
-refused-requires c κs = search needs
-
 returns : tie.Need-returns
 unfolding queueSend queueAt
 returns c =
     let a = c .before .before .before .before .before .before .args in
     let e = c .before .before .send .ensures ∙ ap (λ (q : Queue). sendRefusal q (a .index) (length (a .messages .now)) (a .wait) (a .caller)) (c .before .before .before .queue-in .ensures) in
     c .refused .ensures ∙ ap answerOf (ap (refused (a .t1)) e ∙ sym (is-refused (a .t1) (sendRefusal (queueAt (a .t1) (a .n .0)) (a .index) (length (a .messages .now)) (a .wait) (a .caller)) _ (λ w. c .before .if1 .taken (e ∙ w))))
-
-message-in-requires : tie.Need-message-in-requires
-message-in-requires c κs = search needs
-
-has-room-requires : tie.Need-has-room-requires
-has-room-requires c κs = search needs
-
-place-requires : tie.Need-place-requires
-place-requires c κs = search needs
-
-first-at-requires : tie.Need-first-at-requires
-first-at-requires c κs = search needs
-
-cast-i : tie.Need-cast-i
-cast-i c = search needs
-
-of-requires : tie.Need-of-requires
-of-requires c κs = search needs
-
-mul-h : tie.Need-mul-h
-mul-h c = search needs
-
-element-set-from-h : tie.Need-element-set-from-h
-element-set-from-h c = search needs
-
-woken-requires : tie.Need-woken-requires
-woken-requires c κs = search needs
-
-with-sent-requires : tie.Need-with-sent-requires
-with-sent-requires c κs = search needs
-
-cast-j : tie.Need-cast-j
-cast-j c = search needs
-
-mul-filled : tie.Need-mul-filled
-mul-filled c = search needs
-
-element-set-from-filled : tie.Need-element-set-from-filled
-element-set-from-filled c = search needs
-
-cast-i-2 : tie.Need-cast-i-2
-cast-i-2 c = search needs
-
-with-runner-waiting-requires : tie.Need-with-runner-waiting-requires
-with-runner-waiting-requires c κs = search needs
-
-sender-requires : tie.Need-sender-requires
-sender-requires c κs = search needs
-
-mul-h-2 : tie.Need-mul-h-2
-mul-h-2 c = search needs
-
-element-set-from-h-2 : tie.Need-element-set-from-h-2
-element-set-from-h-2 c = search needs
-
-carried-requires : tie.Need-carried-requires
-carried-requires c κs = search needs
 
 returns-2 : tie.Need-returns-2
 unfolding queueSend queueAt sendTo endWait startWait answerOf carried answered withScheduler withHeld withQueue
@@ -120,27 +54,10 @@ pub queue-send-spec : {M : Type 1} → statement M
 queue-send-spec =
     tie.close
     (tie.spec
-    queue-in-requires
-    send-requires
-    refused-requires
+    (λ c κs. search needs) (λ c κs. search needs) (λ c κs. search needs)
     returns
-    message-in-requires
-    has-room-requires
-    place-requires
-    first-at-requires
-    cast-i
-    of-requires
-    mul-h
-    element-set-from-h
-    woken-requires
-    with-sent-requires
-    cast-j
-    mul-filled
-    element-set-from-filled
-    cast-i-2
-    with-runner-waiting-requires
-    sender-requires
-    mul-h-2
-    element-set-from-h-2
-    carried-requires
+    (λ c κs. search needs) (λ c κs. search needs) (λ c κs. search needs) (λ c κs. search needs)
+    (λ c. search needs) (λ c κs. search needs) (λ c. search needs) (λ c. search needs) (λ c κs. search needs)
+    (λ c κs. search needs) (λ c. search needs) (λ c. search needs) (λ c. search needs) (λ c. search needs)
+    (λ c κs. search needs) (λ c κs. search needs) (λ c. search needs) (λ c. search needs) (λ c κs. search needs)
     returns-2)

@@ -8,4 +8,5 @@ unfolding answerOf refused
 returns c = refl
 
 pub refused-spec : {M : Type 1} → statement M
-refused-spec = tie.close (tie.spec returns)
+refused-spec =
+    tie.close (tie.spec returns)

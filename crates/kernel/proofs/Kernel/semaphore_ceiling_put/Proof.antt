@@ -9,24 +9,12 @@ use Rattle.kernel.proofs.Laws.Answers.{is-refused, is-carried, first-no
 use Rattle.kernel.proofs.Kernel.semaphore_ceiling_put.Statement.{statement}
 use Rattle.kernel.proofs.Kernel.semaphore_ceiling_put.Tie as tie
 
-semaphore-in-requires : tie.Need-semaphore-in-requires
-semaphore-in-requires c κs = search needs
-
-ceiling-put-requires : tie.Need-ceiling-put-requires
-ceiling-put-requires c κs = search needs
-
-refused-requires : tie.Need-refused-requires
-refused-requires c κs = search needs
-
 returns : tie.Need-returns
 unfolding semaphoreCeilingPut semaphoreAt
 returns c =
     let a = c .before .before .before .before .before .args in
     let e = c .before .before .ceiling-put .ensures ∙ ap (λ (x : Semaphore). ceilingRefusal x (a .ceiling)) (c .before .before .before .semaphore-in .ensures) in
     c .refused .ensures ∙ ap answerOf (ap (refused (a .self)) e ∙ sym (is-refused (a .self) (ceilingRefusal (semaphoreAt (a .self) (a .n .0)) (a .ceiling)) _ (λ w. c .before .if1 .taken (e ∙ w))))
-
-semaphore-put-requires : tie.Need-semaphore-put-requires
-semaphore-put-requires c κs = search needs
 
 returns-2 : tie.Need-returns-2
 unfolding semaphorePut semaphoreCeilingPut semaphoreAt semaphoreRefusal ceilingRefusal
@@ -41,9 +29,7 @@ pub semaphore-ceiling-put-spec : {M : Type 1} → statement M
 semaphore-ceiling-put-spec =
     tie.close
     (tie.spec
-    semaphore-in-requires
-    ceiling-put-requires
-    refused-requires
+    (λ c κs. search needs) (λ c κs. search needs) (λ c κs. search needs)
     returns
-    semaphore-put-requires
+    (λ c κs. search needs)
     returns-2)

@@ -9,30 +9,12 @@ use Rattle.kernel.proofs.Laws.Answers.{is-refused, is-carried}
 use Rattle.kernel.proofs.Kernel.semaphore_create.Statement.{statement}
 use Rattle.kernel.proofs.Kernel.semaphore_create.Tie as tie
 
-semaphore-in-requires : tie.Need-semaphore-in-requires
-semaphore-in-requires c κs = search needs
-
-semaphore-create-requires : tie.Need-semaphore-create-requires
-semaphore-create-requires c κs = search needs
-
-refused-requires : tie.Need-refused-requires
-refused-requires c κs = search needs
-
 returns : tie.Need-returns
 unfolding semaphoreCreate semaphoreAt
 returns c =
     let a = c .before .before .before .before .before .args in
     let e = c .before .before .semaphore-create .ensures ∙ ap (λ (x : Semaphore). semaphoreCreateRefusal (a .n .0) x (a .caller)) (c .before .before .before .semaphore-in .ensures) in
     c .refused .ensures ∙ ap answerOf (ap (refused (a .self)) e ∙ sym (is-refused (a .self) (semaphoreCreateRefusal (a .n .0) (semaphoreAt (a .self) (a .n .0)) (a .caller)) _ (λ w. c .before .if1 .taken (e ∙ w))))
-
-counting-requires : tie.Need-counting-requires
-counting-requires c κs = search needs
-
-semaphores-with-requires : tie.Need-semaphores-with-requires
-semaphores-with-requires c κs = search needs
-
-carried-requires : tie.Need-carried-requires
-carried-requires c κs = search needs
 
 returns-2 : tie.Need-returns-2
 unfolding semaphoreCreate answerOf carried answered given withHeld withScheduler withSemaphore withClock semaphoreAt
@@ -46,11 +28,7 @@ pub semaphore-create-spec : {M : Type 1} → statement M
 semaphore-create-spec =
     tie.close
     (tie.spec
-    semaphore-in-requires
-    semaphore-create-requires
-    refused-requires
+    (λ c κs. search needs) (λ c κs. search needs) (λ c κs. search needs)
     returns
-    counting-requires
-    semaphores-with-requires
-    carried-requires
+    (λ c κs. search needs) (λ c κs. search needs) (λ c κs. search needs)
     returns-2)

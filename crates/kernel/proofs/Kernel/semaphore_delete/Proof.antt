@@ -15,36 +15,12 @@ use Rattle.objects.specs.Semaphores.{noSemaphore}
 use Rattle.kernel.proofs.Kernel.semaphore_delete.Statement.{statement}
 use Rattle.kernel.proofs.Kernel.semaphore_delete.Tie as tie
 
-semaphore-in-requires : tie.Need-semaphore-in-requires
-semaphore-in-requires c κs = search needs
-
-semaphore-delete-requires : tie.Need-semaphore-delete-requires
-semaphore-delete-requires c κs = search needs
-
-refused-requires : tie.Need-refused-requires
-refused-requires c κs = search needs
-
 returns : tie.Need-returns
 unfolding semaphoreDelete semaphoreAt
 returns c =
     let a = c .before .before .before .before .before .args in
     let e = c .before .before .semaphore-delete .ensures ∙ ap (λ (x : Semaphore). semaphoreDeleteRefusal x (a .caller)) (c .before .before .before .semaphore-in .ensures) in
     c .refused .ensures ∙ ap answerOf (ap (refused (a .self)) e ∙ sym (is-refused (a .self) (semaphoreDeleteRefusal (semaphoreAt (a .self) (a .n .0)) (a .caller)) _ (λ w. c .before .if1 .taken (e ∙ w))))
-
-place-requires : tie.Need-place-requires
-place-requires c κs = search needs
-
-line-at-requires : tie.Need-line-at-requires
-line-at-requires c κs = search needs
-
-none-requires : tie.Need-none-requires
-none-requires c κs = search needs
-
-semaphores-with-requires : tie.Need-semaphores-with-requires
-semaphores-with-requires c κs = search needs
-
-ended-each-requires : tie.Need-ended-each-requires
-ended-each-requires c κs = search needs
 
 returns-2 : tie.Need-returns-2
 unfolding semaphoreDelete semaphoreAt withSemaphore
@@ -60,13 +36,8 @@ pub semaphore-delete-spec : {M : Type 1} → statement M
 semaphore-delete-spec =
     tie.close
     (tie.spec
-    semaphore-in-requires
-    semaphore-delete-requires
-    refused-requires
+    (λ c κs. search needs) (λ c κs. search needs) (λ c κs. search needs)
     returns
-    place-requires
-    line-at-requires
-    none-requires
-    semaphores-with-requires
-    ended-each-requires
+    (λ c κs. search needs) (λ c κs. search needs) (λ c κs. search needs) (λ c κs. search needs)
+    (λ c κs. search needs)
     returns-2)

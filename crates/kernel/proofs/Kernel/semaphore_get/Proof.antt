@@ -15,48 +15,12 @@ use Rattle.kernel.proofs.Laws.Answers.{is-refused, is-carried, held-out
 use Rattle.kernel.proofs.Kernel.semaphore_get.Statement.{statement}
 use Rattle.kernel.proofs.Kernel.semaphore_get.Tie as tie
 
-semaphore-in-requires : tie.Need-semaphore-in-requires
-semaphore-in-requires c κs = search needs
-
-semaphore-get-requires : tie.Need-semaphore-get-requires
-semaphore-get-requires c κs = search needs
-
-refused-requires : tie.Need-refused-requires
-refused-requires c κs = search needs
-
 returns : tie.Need-returns
 unfolding semaphoreGet semaphoreAt
 returns c =
     let a = c .before .before .before .before .before .args in
     let e = c .before .before .semaphore-get .ensures ∙ ap (λ (x : Semaphore). semaphoreGetRefusal x (a .wait) (a .caller)) (c .before .before .before .semaphore-in .ensures) in
     c .refused .ensures ∙ ap answerOf (ap (refused (a .t1)) e ∙ sym (is-refused (a .t1) (semaphoreGetRefusal (semaphoreAt (a .t1) (a .n .0)) (a .wait) (a .caller)) _ (λ w. c .before .if1 .taken (e ∙ w))))
-
-sub-counting : tie.Need-sub-counting
-sub-counting c = search needs
-
-counting-requires : tie.Need-counting-requires
-counting-requires c κs = search needs
-
-semaphores-with-requires : tie.Need-semaphores-with-requires
-semaphores-with-requires c κs = search needs
-
-cast-i : tie.Need-cast-i
-cast-i c = search needs
-
-with-runner-waiting-requires : tie.Need-with-runner-waiting-requires
-with-runner-waiting-requires c κs = search needs
-
-of-requires : tie.Need-of-requires
-of-requires c κs = search needs
-
-mul-h : tie.Need-mul-h
-mul-h c = search needs
-
-element-set-from-h : tie.Need-element-set-from-h
-element-set-from-h c = search needs
-
-carried-requires : tie.Need-carried-requires
-carried-requires c κs = search needs
 
 returns-2 : tie.Need-returns-2
 unfolding semaphoreGet startWait answerOf carried answered withScheduler withHeld withSemaphore semaphoreAt
@@ -80,17 +44,8 @@ pub semaphore-get-spec : {M : Type 1} → statement M
 semaphore-get-spec =
     tie.close
     (tie.spec
-    semaphore-in-requires
-    semaphore-get-requires
-    refused-requires
+    (λ c κs. search needs) (λ c κs. search needs) (λ c κs. search needs)
     returns
-    sub-counting
-    counting-requires
-    semaphores-with-requires
-    cast-i
-    with-runner-waiting-requires
-    of-requires
-    mul-h
-    element-set-from-h
-    carried-requires
+    (λ c. search needs) (λ c κs. search needs) (λ c κs. search needs) (λ c. search needs) (λ c κs. search needs)
+    (λ c κs. search needs) (λ c. search needs) (λ c. search needs) (λ c κs. search needs)
     returns-2)

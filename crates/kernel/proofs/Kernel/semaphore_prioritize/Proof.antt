@@ -9,30 +9,12 @@ use Rattle.kernel.proofs.Laws.Answers.{is-refused, is-carried}
 use Rattle.kernel.proofs.Kernel.semaphore_prioritize.Statement.{statement}
 use Rattle.kernel.proofs.Kernel.semaphore_prioritize.Tie as tie
 
-semaphore-in-requires : tie.Need-semaphore-in-requires
-semaphore-in-requires c κs = search needs
-
-semaphore-requires : tie.Need-semaphore-requires
-semaphore-requires c κs = search needs
-
-refused-requires : tie.Need-refused-requires
-refused-requires c κs = search needs
-
 returns : tie.Need-returns
 unfolding semaphorePrioritize semaphoreAt
 returns c =
     let a = c .before .before .before .before .before .args in
     let e = c .before .before .semaphore .ensures ∙ ap (λ (x : Semaphore). semaphoreRefusal x) (c .before .before .before .semaphore-in .ensures) in
     c .refused .ensures ∙ ap answerOf (ap (refused (a .self)) e ∙ sym (is-refused (a .self) (semaphoreRefusal (semaphoreAt (a .self) (a .n .0))) _ (λ w. c .before .if1 .taken (e ∙ w))))
-
-place-requires : tie.Need-place-requires
-place-requires c κs = search needs
-
-prioritised-requires : tie.Need-prioritised-requires
-prioritised-requires c κs = search needs
-
-carried-requires : tie.Need-carried-requires
-carried-requires c κs = search needs
 
 returns-2 : tie.Need-returns-2
 unfolding semaphorePrioritize answerOf carried answered given withHeld withScheduler withSemaphore withClock semaphoreAt
@@ -46,11 +28,7 @@ pub semaphore-prioritize-spec : {M : Type 1} → statement M
 semaphore-prioritize-spec =
     tie.close
     (tie.spec
-    semaphore-in-requires
-    semaphore-requires
-    refused-requires
+    (λ c κs. search needs) (λ c κs. search needs) (λ c κs. search needs)
     returns
-    place-requires
-    prioritised-requires
-    carried-requires
+    (λ c κs. search needs) (λ c κs. search needs) (λ c κs. search needs)
     returns-2)

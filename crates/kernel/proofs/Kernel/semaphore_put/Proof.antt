@@ -14,54 +14,12 @@ use Rattle.kernel.proofs.Laws.Answers.{is-refused, is-carried}
 use Rattle.kernel.proofs.Kernel.semaphore_put.Statement.{statement}
 use Rattle.kernel.proofs.Kernel.semaphore_put.Tie as tie
 
-semaphore-in-requires : tie.Need-semaphore-in-requires
-semaphore-in-requires c κs = search needs
-
-semaphore-requires : tie.Need-semaphore-requires
-semaphore-requires c κs = search needs
-
-refused-requires : tie.Need-refused-requires
-refused-requires c κs = search needs
-
 returns : tie.Need-returns
 unfolding semaphorePut semaphoreAt
 returns c =
     let a = c .before .before .before .before .before .args in
     let e = c .before .before .semaphore .ensures ∙ ap semaphoreRefusal (c .before .before .before .semaphore-in .ensures) in
     c .refused .ensures ∙ ap answerOf (ap (refused (a .t1)) e ∙ sym (is-refused (a .t1) (semaphoreRefusal (semaphoreAt (a .t1) (a .n .0))) _ (λ w. c .before .if1 .taken (e ∙ w))))
-
-place-requires : tie.Need-place-requires
-place-requires c κs = search needs
-
-first-at-requires : tie.Need-first-at-requires
-first-at-requires c κs = search needs
-
-cast-i : tie.Need-cast-i
-cast-i c = search needs
-
-of-requires : tie.Need-of-requires
-of-requires c κs = search needs
-
-mul-h : tie.Need-mul-h
-mul-h c = search needs
-
-element-set-from-h : tie.Need-element-set-from-h
-element-set-from-h c = search needs
-
-woken-requires : tie.Need-woken-requires
-woken-requires c κs = search needs
-
-wrapping-add-u32-requires : tie.Need-wrapping-add-u32-requires
-wrapping-add-u32-requires c κs = search needs
-
-counting-requires : tie.Need-counting-requires
-counting-requires c κs = search needs
-
-semaphores-with-requires : tie.Need-semaphores-with-requires
-semaphores-with-requires c κs = search needs
-
-carried-requires : tie.Need-carried-requires
-carried-requires c κs = search needs
 
 returns-2 : tie.Need-returns-2
 unfolding semaphorePut putOn endWait oneMore answerOf carried answered withScheduler withHeld withSemaphore semaphoreAt
@@ -81,19 +39,9 @@ pub semaphore-put-spec : {M : Type 1} → statement M
 semaphore-put-spec =
     tie.close
     (tie.spec
-    semaphore-in-requires
-    semaphore-requires
-    refused-requires
+    (λ c κs. search needs) (λ c κs. search needs) (λ c κs. search needs)
     returns
-    place-requires
-    first-at-requires
-    cast-i
-    of-requires
-    mul-h
-    element-set-from-h
-    woken-requires
-    wrapping-add-u32-requires
-    counting-requires
-    semaphores-with-requires
-    carried-requires
+    (λ c κs. search needs) (λ c κs. search needs) (λ c. search needs) (λ c κs. search needs) (λ c. search needs)
+    (λ c. search needs) (λ c κs. search needs) (λ c κs. search needs) (λ c κs. search needs)
+    (λ c κs. search needs) (λ c κs. search needs)
     returns-2)

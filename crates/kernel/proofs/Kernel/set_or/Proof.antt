@@ -43,27 +43,6 @@ abbrev μ-loop2 : tie.MeasureT-loop2
 loop-holds : tie.Need-loop-holds Inv-loop μ-loop Inv-loop2 μ-loop2
 loop-holds c = (omega arith, refl, refl, (λ j l. absurd (not-suc-le-zero l)), (λ j l. absurd (not-suc-le-zero l)))
 
-mul-h : tie.Need-mul-h Inv-loop μ-loop Inv-loop2 μ-loop2
-mul-h c = search needs
-
-element-copy-out-h : tie.Need-element-copy-out-h Inv-loop μ-loop Inv-loop2 μ-loop2
-element-copy-out-h c = search needs
-
-mul-requests : tie.Need-mul-requests Inv-loop μ-loop Inv-loop2 μ-loop2
-mul-requests c = search needs
-
-array-write-requests : tie.Need-array-write-requests Inv-loop μ-loop Inv-loop2 μ-loop2
-array-write-requests c = search needs
-
-array-write-options : tie.Need-array-write-options Inv-loop μ-loop Inv-loop2 μ-loop2
-array-write-options c = search needs
-
-add-t : tie.Need-add-t Inv-loop μ-loop Inv-loop2 μ-loop2
-add-t c = search needs
-
-loop-less : tie.Need-loop-less Inv-loop μ-loop Inv-loop2 μ-loop2
-loop-less c = search needs
-
 loop-again : tie.Need-loop-again Inv-loop μ-loop Inv-loop2 μ-loop2
 unfolding heldAt
 loop-again c =
@@ -78,36 +57,6 @@ loop-again c =
       table-more (a .t1) (λ y. y .option) (l .options) (l .t) _ (omega (arith, l .inv .2, c .before .loop-test .taken)) (ap (λ (y : Held). y .option) h) (l .inv .4),
     )
 
-place-requires : tie.Need-place-requires Inv-loop μ-loop Inv-loop2 μ-loop2
-place-requires c κs = search needs
-
-line-at-requires : tie.Need-line-at-requires Inv-loop μ-loop Inv-loop2 μ-loop2
-line-at-requires c κs = search needs
-
-woken-requires : tie.Need-woken-requires Inv-loop μ-loop Inv-loop2 μ-loop2
-woken-requires c κs = search needs
-
-less-requires : tie.Need-less-requires Inv-loop μ-loop Inv-loop2 μ-loop2
-less-requires c κs = search needs
-
-of-requires : tie.Need-of-requires Inv-loop μ-loop Inv-loop2 μ-loop2
-of-requires c κs = search needs
-
-groups-with-requires : tie.Need-groups-with-requires Inv-loop μ-loop Inv-loop2 μ-loop2
-groups-with-requires c κs = search needs
-
-size-requires : tie.Need-size-requires Inv-loop μ-loop Inv-loop2 μ-loop2
-size-requires c κs = search needs
-
-cast-ended : tie.Need-cast-ended Inv-loop μ-loop Inv-loop2 μ-loop2
-cast-ended c = search needs
-
-two-words-requires : tie.Need-two-words-requires Inv-loop μ-loop Inv-loop2 μ-loop2
-two-words-requires c κs = search needs
-
-of-requires-2 : tie.Need-of-requires-2 Inv-loop μ-loop Inv-loop2 μ-loop2
-of-requires-2 c κs = search needs
-
 loop2-holds : tie.Need-loop2-holds Inv-loop μ-loop Inv-loop2 μ-loop2
 unfolding endEach withScheduler lineOf
 loop2-holds c =
@@ -117,26 +66,8 @@ loop2-holds c =
     let w = length-members (c .before .before .before .before .before .before .before .before .before .woken .result .line) o in
     (omega arith, omega (arith, z, w), o, length-mapped _ (a .t1 .held) 32 (c .before .before .before .before .before .before .before .before .before .before .before .before .before .before .before .good .0 .1 .1 .1 .0 .1 .0 .1), refl)
 
-array-read-x : tie.Need-array-read-x Inv-loop μ-loop Inv-loop2 μ-loop2
-array-read-x c = search needs
-
 cast-u : tie.Need-cast-u Inv-loop μ-loop Inv-loop2 μ-loop2
 cast-u c = search (needs, c .before .before .before .before .before .before .before .before .before .before .before .woken .ok .1 .1 .0 .1 .1 .0 .1 .1)
-
-add-i : tie.Need-add-i Inv-loop μ-loop Inv-loop2 μ-loop2
-add-i c = search needs
-
-woken-requires-2 : tie.Need-woken-requires-2 Inv-loop μ-loop Inv-loop2 μ-loop2
-woken-requires-2 c κs = search needs
-
-mul-h-2 : tie.Need-mul-h-2 Inv-loop μ-loop Inv-loop2 μ-loop2
-mul-h-2 c = search needs
-
-element-set-from-h : tie.Need-element-set-from-h Inv-loop μ-loop Inv-loop2 μ-loop2
-element-set-from-h c = search needs
-
-loop2-less : tie.Need-loop2-less Inv-loop μ-loop Inv-loop2 μ-loop2
-loop2-less c = search needs
 
 loop2-again : tie.Need-loop2-again Inv-loop μ-loop Inv-loop2 μ-loop2
 unfolding withScheduler withHeld holding
@@ -149,9 +80,6 @@ loop2-again c =
     let g : v ≡ holding 0 (v .words) = c .before .before .before .before .of2 .ensures ∙ sym (ap (λ (y : Held). holding 0 (y .words)) (c .before .before .before .before .of2 .ensures)) in
     (omega arith, omega arith, l .inv .2, simp length-set (l .inv .3), rw (c .before .woken2 .ensures) ((λ j. withHeld (withScheduler (l .self) (woken (l .s) x)) x (g j)) ∙ each-step _ (l .self) (l .s) 0 (v .words) ids (l .i) h (l .inv .4)))
 
-loop2-less-2 : tie.Need-loop2-less-2 Inv-loop μ-loop Inv-loop2 μ-loop2
-loop2-less-2 c = search needs
-
 loop2-again-2 : tie.Need-loop2-again-2 Inv-loop μ-loop Inv-loop2 μ-loop2
 unfolding withScheduler withHeld
 loop2-again-2 c =
@@ -161,12 +89,6 @@ loop2-again-2 c =
     let h : l .i < length ids = omega (arith, l .inv .0, l .inv .1, l .inv .2, c .before .before .loop2-test .taken) in
     let v = c .before .before .before .before .of2 .result in
     (omega arith, omega arith, l .inv .2, l .inv .3, rw (c .before .woken2 .ensures) (sym (held-out (withScheduler (l .self) (woken (l .s) x)) x (holding 0 (v .words)) (l .inv .3) (c .if1 .left)) ∙ each-step _ (l .self) (l .s) 0 (v .words) ids (l .i) h (l .inv .4)))
-
-cast-carried : tie.Need-cast-carried Inv-loop μ-loop Inv-loop2 μ-loop2
-cast-carried c = search needs
-
-carried-requires : tie.Need-carried-requires Inv-loop μ-loop Inv-loop2 μ-loop2
-carried-requires c κs = search needs
 
 returns : tie.Need-returns Inv-loop μ-loop Inv-loop2 μ-loop2
 unfolding setOr holding withGroup lineOf answerOf carried answered withScheduler
@@ -201,35 +123,18 @@ set-or-spec =
     Inv-loop2
     μ-loop2
     loop-holds
-    mul-h
-    element-copy-out-h
-    mul-requests
-    array-write-requests
-    array-write-options
-    add-t
-    loop-less
+    (λ c. search needs) (λ c. search needs) (λ c. search needs) (λ c. search needs) (λ c. search needs)
+    (λ c. search needs) (λ c. search needs)
     loop-again
-    place-requires
-    line-at-requires
-    woken-requires
-    less-requires
-    of-requires
-    groups-with-requires
-    size-requires
-    cast-ended
-    two-words-requires
-    of-requires-2
+    (λ c κs. search needs) (λ c κs. search needs) (λ c κs. search needs) (λ c κs. search needs)
+    (λ c κs. search needs) (λ c κs. search needs) (λ c κs. search needs) (λ c. search needs)
+    (λ c κs. search needs) (λ c κs. search needs)
     loop2-holds
-    array-read-x
+    (λ c. search needs)
     cast-u
-    add-i
-    woken-requires-2
-    mul-h-2
-    element-set-from-h
-    loop2-less
+    (λ c. search needs) (λ c κs. search needs) (λ c. search needs) (λ c. search needs) (λ c. search needs)
     loop2-again
-    loop2-less-2
+    (λ c. search needs)
     loop2-again-2
-    cast-carried
-    carried-requires
+    (λ c. search needs) (λ c κs. search needs)
     returns)

@@ -13,24 +13,12 @@ use Rattle.kernel.proofs.Laws.Answers.{is-refused, is-carried, first-no
 use Rattle.kernel.proofs.Kernel.thread_create.Statement.{statement}
 use Rattle.kernel.proofs.Kernel.thread_create.Tie as tie
 
-thread-at-requires : tie.Need-thread-at-requires
-thread-at-requires c κs = search needs
-
-create-requires : tie.Need-create-requires
-create-requires c κs = search needs
-
-refused-requires : tie.Need-refused-requires
-refused-requires c κs = search needs
-
 returns : tie.Need-returns
 unfolding threadCreate
 returns c =
     let a = c .before .before .before .before .before .args in
     let e = c .before .before .create .ensures ∙ ap (λ (x : Thread). createRefusal (a .t .0) x (a .priority) (a .threshold) (a .start) (a .caller)) (c .before .before .before .thread-at .ensures) in
     c .refused .ensures ∙ ap answerOf (ap (refused (a .self)) e ∙ sym (is-refused (a .self) (createRefusal (a .t .0) (threadOf (a .self) (a .t .0)) (a .priority) (a .threshold) (a .start) (a .caller)) _ (λ w. c .before .if1 .taken (e ∙ w))))
-
-start-state-requires : tie.Need-start-state-requires
-start-state-requires c κs = search needs
 
 cast-created : tie.Need-cast-created
 unfolding createRefusal
@@ -52,18 +40,6 @@ cast-created-2 c =
     let m = leb-true (a .threshold) (a .priority) (unless-none (leb (a .threshold) (a .priority)) 24 (omega arith) (first-none (unless (leb (a .threshold) (a .priority)) 24) _ v)) in
     omega (arith, l, m)
 
-created-requires : tie.Need-created-requires
-created-requires c κs = search needs
-
-of-requires : tie.Need-of-requires
-of-requires c κs = search needs
-
-moved-requires : tie.Need-moved-requires
-moved-requires c κs = search needs
-
-held-carried-requires : tie.Need-held-carried-requires
-held-carried-requires c κs = search needs
-
 returns-2 : tie.Need-returns-2
 unfolding threadCreate given answerOf carried answered withHeld withScheduler
 returns-2 c =
@@ -76,15 +52,10 @@ pub thread-create-spec : {M : Type 1} → statement M
 thread-create-spec =
     tie.close
     (tie.spec
-    thread-at-requires
-    create-requires
-    refused-requires
+    (λ c κs. search needs) (λ c κs. search needs) (λ c κs. search needs)
     returns
-    start-state-requires
+    (λ c κs. search needs)
     cast-created
     cast-created-2
-    created-requires
-    of-requires
-    moved-requires
-    held-carried-requires
+    (λ c κs. search needs) (λ c κs. search needs) (λ c κs. search needs) (λ c κs. search needs)
     returns-2)

@@ -9,33 +9,12 @@ use Rattle.kernel.proofs.Laws.Answers.{is-refused, is-carried}
 use Rattle.kernel.proofs.Kernel.thread_delete.Statement.{statement}
 use Rattle.kernel.proofs.Kernel.thread_delete.Tie as tie
 
-thread-at-requires : tie.Need-thread-at-requires
-thread-at-requires c κs = search needs
-
-delete-requires : tie.Need-delete-requires
-delete-requires c κs = search needs
-
-refused-requires : tie.Need-refused-requires
-refused-requires c κs = search needs
-
 returns : tie.Need-returns
 unfolding threadDelete
 returns c =
     let a = c .before .before .before .before .before .args in
     let e = c .before .before .delete .ensures ∙ ap (λ (x : Thread). deleteRefusal x (a .caller)) (c .before .before .before .thread-at .ensures) in
     c .refused .ensures ∙ ap answerOf (ap (refused (a .self)) e ∙ sym (is-refused (a .self) (deleteRefusal (threadOf (a .self) (a .t .0)) (a .caller)) _ (λ w. c .before .if1 .taken (e ∙ w))))
-
-of-requires : tie.Need-of-requires
-of-requires c κs = search needs
-
-uncreated-requires : tie.Need-uncreated-requires
-uncreated-requires c κs = search needs
-
-moved-requires : tie.Need-moved-requires
-moved-requires c κs = search needs
-
-held-carried-requires : tie.Need-held-carried-requires
-held-carried-requires c κs = search needs
 
 returns-2 : tie.Need-returns-2
 unfolding threadDelete given answerOf carried answered withHeld withScheduler
@@ -49,12 +28,7 @@ pub thread-delete-spec : {M : Type 1} → statement M
 thread-delete-spec =
     tie.close
     (tie.spec
-    thread-at-requires
-    delete-requires
-    refused-requires
+    (λ c κs. search needs) (λ c κs. search needs) (λ c κs. search needs)
     returns
-    of-requires
-    uncreated-requires
-    moved-requires
-    held-carried-requires
+    (λ c κs. search needs) (λ c κs. search needs) (λ c κs. search needs) (λ c κs. search needs)
     returns-2)

@@ -8,33 +8,12 @@ use Rattle.kernel.proofs.Laws.Answers.{is-refused, is-carried}
 use Rattle.kernel.proofs.Kernel.thread_finish.Statement.{statement}
 use Rattle.kernel.proofs.Kernel.thread_finish.Tie as tie
 
-thread-only-requires : tie.Need-thread-only-requires
-thread-only-requires c κs = search needs
-
-refused-requires : tie.Need-refused-requires
-refused-requires c κs = search needs
-
 returns : tie.Need-returns
 unfolding threadFinish
 returns c =
     let a = c .before .before .before .args in
     let e = c .before .before .thread-only .ensures in
     c .refused .ensures ∙ ap answerOf (ap (refused (a .self)) e ∙ sym (is-refused (a .self) (threadOnlyRefusal (a .caller)) _ (λ w. c .before .if1 .taken (e ∙ w))))
-
-thread-at-requires : tie.Need-thread-at-requires
-thread-at-requires c κs = search needs
-
-in-state-requires : tie.Need-in-state-requires
-in-state-requires c κs = search needs
-
-of-requires : tie.Need-of-requires
-of-requires c κs = search needs
-
-moved-requires : tie.Need-moved-requires
-moved-requires c κs = search needs
-
-held-carried-requires : tie.Need-held-carried-requires
-held-carried-requires c κs = search needs
 
 returns-2 : tie.Need-returns-2
 unfolding threadFinish given answerOf carried answered withHeld withScheduler
@@ -47,12 +26,8 @@ pub thread-finish-spec : {M : Type 1} → statement M
 thread-finish-spec =
     tie.close
     (tie.spec
-    thread-only-requires
-    refused-requires
+    (λ c κs. search needs) (λ c κs. search needs)
     returns
-    thread-at-requires
-    in-state-requires
-    of-requires
-    moved-requires
-    held-carried-requires
+    (λ c κs. search needs) (λ c κs. search needs) (λ c κs. search needs) (λ c κs. search needs)
+    (λ c κs. search needs)
     returns-2)

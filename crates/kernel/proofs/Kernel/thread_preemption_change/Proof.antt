@@ -13,27 +13,12 @@ use Rattle.kernel.proofs.Laws.Answers.{is-refused, is-carried, first-no
 use Rattle.kernel.proofs.Kernel.thread_preemption_change.Statement.{statement}
 use Rattle.kernel.proofs.Kernel.thread_preemption_change.Tie as tie
 
-thread-at-requires : tie.Need-thread-at-requires
-thread-at-requires c κs = search needs
-
-preemption-change-requires : tie.Need-preemption-change-requires
-preemption-change-requires c κs = search needs
-
-refused-requires : tie.Need-refused-requires
-refused-requires c κs = search needs
-
 returns : tie.Need-returns
 unfolding threadPreemptionChange
 returns c =
     let a = c .before .before .before .before .before .args in
     let e = c .before .before .preemption-change .ensures ∙ ap (λ (x : Thread). preemptionRefusal x (a .threshold) (a .caller)) (c .before .before .before .thread-at .ensures) in
     c .refused .ensures ∙ ap answerOf (ap (refused (a .self)) e ∙ sym (is-refused (a .self) (preemptionRefusal (threadOf (a .self) (a .t .0)) (a .threshold) (a .caller)) _ (λ w. c .before .if1 .taken (e ∙ w))))
-
-cast-two-words : tie.Need-cast-two-words
-cast-two-words c = search needs
-
-two-words-requires : tie.Need-two-words-requires
-two-words-requires c κs = search needs
 
 cast-preemption-changed : tie.Need-cast-preemption-changed
 unfolding preemptionRefusal
@@ -44,12 +29,6 @@ cast-preemption-changed c =
     let m = leb-true (a .threshold) (threadOf (a .self) (a .t .0) .priority) (unless-none (leb (a .threshold) (threadOf (a .self) (a .t .0) .priority)) 24 (omega arith) (first-none (unless (leb (a .threshold) (threadOf (a .self) (a .t .0) .priority)) 24) _ w)) in
     let q = ap (λ (x : Thread). x .priority) (c .before .before .before .before .thread-at .ensures) in
     omega (arith, m, q, c .before .struct-known .given .1 .1 .0)
-
-preemption-changed-requires : tie.Need-preemption-changed-requires
-preemption-changed-requires c κs = search needs
-
-carried-requires : tie.Need-carried-requires
-carried-requires c κs = search needs
 
 returns-2 : tie.Need-returns-2
 unfolding threadPreemptionChange answerOf carried answered given withHeld withScheduler withSemaphore withClock
@@ -63,13 +42,9 @@ pub thread-preemption-change-spec : {M : Type 1} → statement M
 thread-preemption-change-spec =
     tie.close
     (tie.spec
-    thread-at-requires
-    preemption-change-requires
-    refused-requires
+    (λ c κs. search needs) (λ c κs. search needs) (λ c κs. search needs)
     returns
-    cast-two-words
-    two-words-requires
+    (λ c. search needs) (λ c κs. search needs)
     cast-preemption-changed
-    preemption-changed-requires
-    carried-requires
+    (λ c κs. search needs) (λ c κs. search needs)
     returns-2)

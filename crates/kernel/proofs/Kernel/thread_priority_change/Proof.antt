@@ -13,27 +13,12 @@ use Rattle.kernel.proofs.Laws.Answers.{is-refused, is-carried, first-no
 use Rattle.kernel.proofs.Kernel.thread_priority_change.Statement.{statement}
 use Rattle.kernel.proofs.Kernel.thread_priority_change.Tie as tie
 
-thread-at-requires : tie.Need-thread-at-requires
-thread-at-requires c κs = search needs
-
-priority-change-requires : tie.Need-priority-change-requires
-priority-change-requires c κs = search needs
-
-refused-requires : tie.Need-refused-requires
-refused-requires c κs = search needs
-
 returns : tie.Need-returns
 unfolding threadPriorityChange
 returns c =
     let a = c .before .before .before .before .before .args in
     let e = c .before .before .priority-change .ensures ∙ ap (λ (x : Thread). priorityRefusal x (a .priority) (a .caller)) (c .before .before .before .thread-at .ensures) in
     c .refused .ensures ∙ ap answerOf (ap (refused (a .self)) e ∙ sym (is-refused (a .self) (priorityRefusal (threadOf (a .self) (a .t .0)) (a .priority) (a .caller)) _ (λ w. c .before .if1 .taken (e ∙ w))))
-
-cast-two-words : tie.Need-cast-two-words
-cast-two-words c = search needs
-
-two-words-requires : tie.Need-two-words-requires
-two-words-requires c κs = search needs
 
 cast-priority-changed : tie.Need-cast-priority-changed
 unfolding priorityRefusal
@@ -43,12 +28,6 @@ cast-priority-changed c =
     let w = second-none (unless (threadOf (a .self) (a .t .0) .created) 14) _ (sym e ∙ c .before .before .if1 .left) in
     let l = ltb-true (a .priority) 32 (unless-none (ltb (a .priority) 32) 15 (omega arith) (first-none (unless (ltb (a .priority) 32) 15) _ w)) in
     omega (arith, l)
-
-priority-changed-requires : tie.Need-priority-changed-requires
-priority-changed-requires c κs = search needs
-
-carried-requires : tie.Need-carried-requires
-carried-requires c κs = search needs
 
 returns-2 : tie.Need-returns-2
 unfolding threadPriorityChange answerOf carried answered given withHeld withScheduler withSemaphore withClock
@@ -62,13 +41,9 @@ pub thread-priority-change-spec : {M : Type 1} → statement M
 thread-priority-change-spec =
     tie.close
     (tie.spec
-    thread-at-requires
-    priority-change-requires
-    refused-requires
+    (λ c κs. search needs) (λ c κs. search needs) (λ c κs. search needs)
     returns
-    cast-two-words
-    two-words-requires
+    (λ c. search needs) (λ c κs. search needs)
     cast-priority-changed
-    priority-changed-requires
-    carried-requires
+    (λ c κs. search needs) (λ c κs. search needs)
     returns-2)

@@ -9,21 +9,12 @@ use Rattle.kernel.proofs.Laws.Answers.{is-refused, is-carried}
 use Rattle.kernel.proofs.Kernel.thread_relinquish.Statement.{statement}
 use Rattle.kernel.proofs.Kernel.thread_relinquish.Tie as tie
 
-thread-only-requires : tie.Need-thread-only-requires
-thread-only-requires c κs = search needs
-
-refused-requires : tie.Need-refused-requires
-refused-requires c κs = search needs
-
 returns : tie.Need-returns
 unfolding threadRelinquish
 returns c =
     let a = c .before .before .before .args in
     let e = c .before .before .thread-only .ensures in
     c .refused .ensures ∙ ap answerOf (ap (refused (a .self)) e ∙ sym (is-refused (a .self) (threadOnlyRefusal (a .caller)) _ (λ w. c .before .if1 .taken (e ∙ w))))
-
-relinquished-requires : tie.Need-relinquished-requires
-relinquished-requires c κs = search needs
 
 returns-2 : tie.Need-returns-2
 unfolding threadRelinquish answerOf carried answered given withHeld withScheduler withSemaphore withClock
@@ -36,4 +27,8 @@ returns-2 c =
 pub thread-relinquish-spec : {M : Type 1} → statement M
 thread-relinquish-spec =
     tie.close
-    (tie.spec thread-only-requires refused-requires returns relinquished-requires returns-2)
+    (tie.spec
+    (λ c κs. search needs) (λ c κs. search needs)
+    returns
+    (λ c κs. search needs)
+    returns-2)

@@ -9,33 +9,12 @@ use Rattle.kernel.proofs.Laws.Answers.{is-refused, is-carried}
 use Rattle.kernel.proofs.Kernel.thread_reset.Statement.{statement}
 use Rattle.kernel.proofs.Kernel.thread_reset.Tie as tie
 
-thread-at-requires : tie.Need-thread-at-requires
-thread-at-requires c κs = search needs
-
-reset-requires : tie.Need-reset-requires
-reset-requires c κs = search needs
-
-refused-requires : tie.Need-refused-requires
-refused-requires c κs = search needs
-
 returns : tie.Need-returns
 unfolding threadReset
 returns c =
     let a = c .before .before .before .before .before .args in
     let e = c .before .before .reset .ensures ∙ ap (λ (x : Thread). resetRefusal x (a .caller)) (c .before .before .before .thread-at .ensures) in
     c .refused .ensures ∙ ap answerOf (ap (refused (a .self)) e ∙ sym (is-refused (a .self) (resetRefusal (threadOf (a .self) (a .t .0)) (a .caller)) _ (λ w. c .before .if1 .taken (e ∙ w))))
-
-in-state-requires : tie.Need-in-state-requires
-in-state-requires c κs = search needs
-
-of-requires : tie.Need-of-requires
-of-requires c κs = search needs
-
-moved-requires : tie.Need-moved-requires
-moved-requires c κs = search needs
-
-held-carried-requires : tie.Need-held-carried-requires
-held-carried-requires c κs = search needs
 
 returns-2 : tie.Need-returns-2
 unfolding threadReset given answerOf carried answered withHeld withScheduler
@@ -49,12 +28,7 @@ pub thread-reset-spec : {M : Type 1} → statement M
 thread-reset-spec =
     tie.close
     (tie.spec
-    thread-at-requires
-    reset-requires
-    refused-requires
+    (λ c κs. search needs) (λ c κs. search needs) (λ c κs. search needs)
     returns
-    in-state-requires
-    of-requires
-    moved-requires
-    held-carried-requires
+    (λ c κs. search needs) (λ c κs. search needs) (λ c κs. search needs) (λ c κs. search needs)
     returns-2)

@@ -12,30 +12,12 @@ use Rattle.kernel.proofs.Laws.Answers.{is-refused, is-carried}
 use Rattle.kernel.proofs.Kernel.thread_resume.Statement.{statement}
 use Rattle.kernel.proofs.Kernel.thread_resume.Tie as tie
 
-thread-at-requires : tie.Need-thread-at-requires
-thread-at-requires c κs = search needs
-
-resume-requires : tie.Need-resume-requires
-resume-requires c κs = search needs
-
-refused-requires : tie.Need-refused-requires
-refused-requires c κs = search needs
-
 returns : tie.Need-returns
 unfolding threadResume
 returns c =
     let a = c .before .before .before .before .before .args in
     let e = c .before .before .resume .ensures ∙ ap (λ (x : Thread). resumeRefusal x) (c .before .before .before .thread-at .ensures) in
     c .refused .ensures ∙ ap answerOf (ap (refused (a .self)) e ∙ sym (is-refused (a .self) (resumeRefusal (threadOf (a .self) (a .t .0))) _ (λ w. c .before .if1 .taken (e ∙ w))))
-
-with-suspension-requires : tie.Need-with-suspension-requires
-with-suspension-requires c κs = search needs
-
-with-thread-requires : tie.Need-with-thread-requires
-with-thread-requires c κs = search needs
-
-carried-requires : tie.Need-carried-requires
-carried-requires c κs = search needs
 
 returns-2 : tie.Need-returns-2
 unfolding threadResume lifted answerOf carried answered given withHeld withScheduler withSemaphore withClock
@@ -45,15 +27,6 @@ returns-2 c =
     let z : resumeRefusal (threadOf (a .self) (a .t .0)) ≡ 0 = sym e ∙ c .before .before .before .before .if1 .left in
     let y : threadOf (a .self) (a .t .0) .suspending ≡ true = ap (λ (x : Thread). x .suspending) (sym (c .before .before .before .before .before .before .thread-at .ensures)) ∙ c .before .before .before .if2 .taken in
     rw is-carried ((c .carried .ensures ∙ rw (c .before .with-thread .ensures, c .before .before .with-suspension .ensures, c .before .before .before .before .before .before .thread-at .ensures)) ∙ ap answerOf (sym (ap (λ (b : Bool). if b then lifted (a .self) (a .t .0) else resumed (a .self) (a .t .0)) y)))
-
-in-state-requires : tie.Need-in-state-requires
-in-state-requires c κs = search needs
-
-moved-requires : tie.Need-moved-requires
-moved-requires c κs = search needs
-
-carried-requires-2 : tie.Need-carried-requires-2
-carried-requires-2 c κs = search needs
 
 returns-3 : tie.Need-returns-3
 unfolding threadResume resumed answerOf carried answered given withHeld withScheduler withSemaphore withClock
@@ -68,15 +41,9 @@ pub thread-resume-spec : {M : Type 1} → statement M
 thread-resume-spec =
     tie.close
     (tie.spec
-    thread-at-requires
-    resume-requires
-    refused-requires
+    (λ c κs. search needs) (λ c κs. search needs) (λ c κs. search needs)
     returns
-    with-suspension-requires
-    with-thread-requires
-    carried-requires
+    (λ c κs. search needs) (λ c κs. search needs) (λ c κs. search needs)
     returns-2
-    in-state-requires
-    moved-requires
-    carried-requires-2
+    (λ c κs. search needs) (λ c κs. search needs) (λ c κs. search needs)
     returns-3)

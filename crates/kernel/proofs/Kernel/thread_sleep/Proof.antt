@@ -14,36 +14,12 @@ use Rattle.kernel.proofs.Laws.Answers.{is-refused, is-carried, held-out
 use Rattle.kernel.proofs.Kernel.thread_sleep.Statement.{statement}
 use Rattle.kernel.proofs.Kernel.thread_sleep.Tie as tie
 
-thread-only-requires : tie.Need-thread-only-requires
-thread-only-requires c κs = search needs
-
-refused-requires : tie.Need-refused-requires
-refused-requires c κs = search needs
-
 returns : tie.Need-returns
 unfolding threadSleep
 returns c =
     let a = c .before .before .before .args in
     let e = c .before .before .thread-only .ensures in
     c .refused .ensures ∙ ap answerOf (ap (refused (a .t1)) e ∙ sym (is-refused (a .t1) (threadOnlyRefusal (a .caller)) _ (λ w. c .before .if1 .taken (e ∙ w))))
-
-cast-i : tie.Need-cast-i
-cast-i c = search needs
-
-with-runner-waiting-requires : tie.Need-with-runner-waiting-requires
-with-runner-waiting-requires c κs = search needs
-
-of-requires : tie.Need-of-requires
-of-requires c κs = search needs
-
-mul-h : tie.Need-mul-h
-mul-h c = search needs
-
-element-set-from-h : tie.Need-element-set-from-h
-element-set-from-h c = search needs
-
-carried-requires : tie.Need-carried-requires
-carried-requires c κs = search needs
 
 returns-2 : tie.Need-returns-2
 unfolding threadSleep startWait answerOf carried answered withScheduler withHeld
@@ -66,13 +42,8 @@ pub thread-sleep-spec : {M : Type 1} → statement M
 thread-sleep-spec =
     tie.close
     (tie.spec
-    thread-only-requires
-    refused-requires
+    (λ c κs. search needs) (λ c κs. search needs)
     returns
-    cast-i
-    with-runner-waiting-requires
-    of-requires
-    mul-h
-    element-set-from-h
-    carried-requires
+    (λ c. search needs) (λ c κs. search needs) (λ c κs. search needs) (λ c. search needs) (λ c. search needs)
+    (λ c κs. search needs)
     returns-2)

@@ -9,24 +9,12 @@ use Rattle.kernel.proofs.Laws.Answers.{is-refused, is-carried}
 use Rattle.kernel.proofs.Kernel.thread_terminate.Statement.{statement}
 use Rattle.kernel.proofs.Kernel.thread_terminate.Tie as tie
 
-thread-at-requires : tie.Need-thread-at-requires
-thread-at-requires c κs = search needs
-
-terminate-requires : tie.Need-terminate-requires
-terminate-requires c κs = search needs
-
-refused-requires : tie.Need-refused-requires
-refused-requires c κs = search needs
-
 returns : tie.Need-returns
 unfolding threadTerminate
 returns c =
     let a = c .before .before .before .before .before .args in
     let e = c .before .before .terminate .ensures ∙ ap (λ (x : Thread). terminateRefusal x (a .caller)) (c .before .before .before .thread-at .ensures) in
     c .refused .ensures ∙ ap answerOf (ap (refused (a .self)) e ∙ sym (is-refused (a .self) (terminateRefusal (threadOf (a .self) (a .t .0)) (a .caller)) _ (λ w. c .before .if1 .taken (e ∙ w))))
-
-carried-requires : tie.Need-carried-requires
-carried-requires c κs = search needs
 
 returns-2 : tie.Need-returns-2
 unfolding threadTerminate answerOf carried answered withScheduler
@@ -35,18 +23,6 @@ returns-2 c =
     let e = c .before .before .before .before .before .terminate .ensures ∙ ap (λ (x : Thread). terminateRefusal x (a .caller)) (c .before .before .before .before .before .before .thread-at .ensures) in
     let z : terminateRefusal (threadOf (a .self) (a .t .0)) (a .caller) ≡ 0 = sym e ∙ c .before .before .before .before .if1 .left in
     rw (is-carried, ← c .before .before .before .before .before .before .thread-at .ensures, c .before .if2 .taken) (c .carried .ensures)
-
-in-state-requires : tie.Need-in-state-requires
-in-state-requires c κs = search needs
-
-of-requires : tie.Need-of-requires
-of-requires c κs = search needs
-
-moved-requires : tie.Need-moved-requires
-moved-requires c κs = search needs
-
-held-carried-requires : tie.Need-held-carried-requires
-held-carried-requires c κs = search needs
 
 returns-3 : tie.Need-returns-3
 unfolding threadTerminate given answerOf carried answered withHeld withScheduler
@@ -60,14 +36,9 @@ pub thread-terminate-spec : {M : Type 1} → statement M
 thread-terminate-spec =
     tie.close
     (tie.spec
-    thread-at-requires
-    terminate-requires
-    refused-requires
+    (λ c κs. search needs) (λ c κs. search needs) (λ c κs. search needs)
     returns
-    carried-requires
+    (λ c κs. search needs)
     returns-2
-    in-state-requires
-    of-requires
-    moved-requires
-    held-carried-requires
+    (λ c κs. search needs) (λ c κs. search needs) (λ c κs. search needs) (λ c κs. search needs)
     returns-3)

@@ -10,30 +10,12 @@ use Rattle.kernel.proofs.Laws.Answers.{is-refused, is-carried}
 use Rattle.kernel.proofs.Kernel.thread_wait_abort.Statement.{statement}
 use Rattle.kernel.proofs.Kernel.thread_wait_abort.Tie as tie
 
-thread-at-requires : tie.Need-thread-at-requires
-thread-at-requires c κs = search needs
-
-abort-requires : tie.Need-abort-requires
-abort-requires c κs = search needs
-
-refused-requires : tie.Need-refused-requires
-refused-requires c κs = search needs
-
 returns : tie.Need-returns
 unfolding threadWaitAbort
 returns c =
     let a = c .before .before .before .before .before .args in
     let e = c .before .before .abort .ensures ∙ ap (λ (x : Thread). abortRefusal x) (c .before .before .before .thread-at .ensures) in
     c .refused .ensures ∙ ap answerOf (ap (refused (a .self)) e ∙ sym (is-refused (a .self) (abortRefusal (threadOf (a .self) (a .t .0))) _ (λ w. c .before .if1 .taken (e ∙ w))))
-
-of-requires : tie.Need-of-requires
-of-requires c κs = search needs
-
-woken-requires : tie.Need-woken-requires
-woken-requires c κs = search needs
-
-held-carried-requires : tie.Need-held-carried-requires
-held-carried-requires c κs = search needs
 
 returns-2 : tie.Need-returns-2
 unfolding threadWaitAbort endWait answerOf carried answered withHeld withScheduler
@@ -47,11 +29,7 @@ pub thread-wait-abort-spec : {M : Type 1} → statement M
 thread-wait-abort-spec =
     tie.close
     (tie.spec
-    thread-at-requires
-    abort-requires
-    refused-requires
+    (λ c κs. search needs) (λ c κs. search needs) (λ c κs. search needs)
     returns
-    of-requires
-    woken-requires
-    held-carried-requires
+    (λ c κs. search needs) (λ c κs. search needs) (λ c κs. search needs)
     returns-2)

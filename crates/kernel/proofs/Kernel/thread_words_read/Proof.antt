@@ -9,27 +9,12 @@ use Rattle.kernel.proofs.Laws.Answers.{is-refused, is-carried}
 use Rattle.kernel.proofs.Kernel.thread_words_read.Statement.{statement}
 use Rattle.kernel.proofs.Kernel.thread_words_read.Tie as tie
 
-thread-at-requires : tie.Need-thread-at-requires
-thread-at-requires c κs = search needs
-
-read-requires : tie.Need-read-requires
-read-requires c κs = search needs
-
-refused-requires : tie.Need-refused-requires
-refused-requires c κs = search needs
-
 returns : tie.Need-returns
 unfolding threadWordsRead
 returns c =
     let a = c .before .before .before .before .before .args in
     let e = c .before .before .read .ensures ∙ ap (λ (x : Thread). readRefusal x) (c .before .before .before .thread-at .ensures) in
     c .refused .ensures ∙ ap answerOf (ap (refused (a .self)) e ∙ sym (is-refused (a .self) (readRefusal (threadOf (a .self) (a .t .0))) _ (λ w. c .before .if1 .taken (e ∙ w))))
-
-held-in-requires : tie.Need-held-in-requires
-held-in-requires c κs = search needs
-
-carried-requires : tie.Need-carried-requires
-carried-requires c κs = search needs
 
 returns-2 : tie.Need-returns-2
 unfolding threadWordsRead answerOf carried answered given withHeld withScheduler withSemaphore withClock heldAt
@@ -43,10 +28,7 @@ pub thread-words-read-spec : {M : Type 1} → statement M
 thread-words-read-spec =
     tie.close
     (tie.spec
-    thread-at-requires
-    read-requires
-    refused-requires
+    (λ c κs. search needs) (λ c κs. search needs) (λ c κs. search needs)
     returns
-    held-in-requires
-    carried-requires
+    (λ c κs. search needs) (λ c κs. search needs)
     returns-2)

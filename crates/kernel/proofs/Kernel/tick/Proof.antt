@@ -28,12 +28,6 @@ Inv-loop caller reason time k₀ s₀ ended₀ t₀ k s ended t = (t ≤ 32) × 
 abbrev μ-loop : tie.MeasureT-loop
 μ-loop caller reason time k₀ s₀ ended₀ t₀ k s ended t = 32 - t
 
-tick-requires : tie.Need-tick-requires Inv-loop μ-loop
-tick-requires c κs = search needs
-
-refused-requires : tie.Need-refused-requires Inv-loop μ-loop
-refused-requires c κs = search needs
-
 returns : tie.Need-returns Inv-loop μ-loop
 unfolding tick
 returns c =
@@ -41,56 +35,11 @@ returns c =
     let e = c .before .before .tick .ensures in
     c .refused .ensures ∙ ap answerOf (ap (refused (a .self)) e ∙ sym (is-refused (a .self) (tickRefusal (a .caller)) _ (λ w. c .before .if1 .taken (e ∙ w))))
 
-wrapping-add-u32-requires : tie.Need-wrapping-add-u32-requires Inv-loop μ-loop
-wrapping-add-u32-requires c κs = search needs
-
 loop-holds : tie.Need-loop-holds Inv-loop μ-loop
 unfolding tickBelow timedOut withScheduler
 loop-holds c =
     let a = c .before .before .before .before .args in
     (omega arith, length-mapped _ (a .self .held) 32 (c .before .before .before .before .good .0 .1 .1 .1 .0 .1 .0 .1), length-mapped _ (a .self .scheduler .threads) 32 (c .before .before .before .before .good .0 .1 .1 .0 .1 .1 .1 .1 .0 .1 .0 .1), refl, refl, omega arith)
-
-mul-th : tie.Need-mul-th Inv-loop μ-loop
-mul-th c = search needs
-
-element-copy-out-th : tie.Need-element-copy-out-th Inv-loop μ-loop
-element-copy-out-th c = search needs
-
-add-t : tie.Need-add-t Inv-loop μ-loop
-add-t c = search needs
-
-is-last-tick-requires : tie.Need-is-last-tick-requires Inv-loop μ-loop
-is-last-tick-requires c κs = search needs
-
-mul-timeout-status : tie.Need-mul-timeout-status Inv-loop μ-loop
-mul-timeout-status c = search needs
-
-element-copy-out-timeout-status : tie.Need-element-copy-out-timeout-status Inv-loop μ-loop
-element-copy-out-timeout-status c = search needs
-
-timeout-status-requires : tie.Need-timeout-status-requires Inv-loop μ-loop
-timeout-status-requires c κs = search needs
-
-of-requires : tie.Need-of-requires Inv-loop μ-loop
-of-requires c κs = search needs
-
-mul-h : tie.Need-mul-h Inv-loop μ-loop
-mul-h c = search needs
-
-element-set-from-h : tie.Need-element-set-from-h Inv-loop μ-loop
-element-set-from-h c = search needs
-
-cast-t31 : tie.Need-cast-t31 Inv-loop μ-loop
-cast-t31 c = search needs
-
-woken-requires : tie.Need-woken-requires Inv-loop μ-loop
-woken-requires c κs = search needs
-
-add-ended : tie.Need-add-ended Inv-loop μ-loop
-add-ended c = search needs
-
-loop-less : tie.Need-loop-less Inv-loop μ-loop
-loop-less c = search needs
 
 loop-again : tie.Need-loop-again Inv-loop μ-loop
 unfolding withScheduler withHeld endWait threadAt heldAt oneIf
@@ -110,9 +59,6 @@ loop-again c =
     let f = c .before .before .timeout-status .ensures ∙ ap₂ timeoutStatus q h in
     (omega arith, simp length-set (l .inv .1), woken-sized (l .s) (l .t) (c .woken .result) (c .woken .ensures) (l .inv .2), rw (c .woken .ensures, c .before .of .ensures, f) (ap (λ (w : Kernel). endWait w (l .t) (timeoutStatus (threadOf w (l .t)) (heldAt w (l .t))) noWords) y ∙ sym (tick-last (tickBelow (l .t) z) (l .t) x) ∙ sym (more-below z (l .t))), omega (arith, l .inv .4, m, o), omega arith)
 
-is-timed-requires : tie.Need-is-timed-requires Inv-loop μ-loop
-is-timed-requires c κs = search needs
-
 sub-with-ticks : tie.Need-sub-with-ticks Inv-loop μ-loop
 unfolding threadAt
 sub-with-ticks c =
@@ -121,18 +67,6 @@ sub-with-ticks c =
     let g = sym (c .before .before .is-timed .ensures) ∙ c .before .if3 .taken in
     let w = ticks-left _ f g in
     omega (arith, w)
-
-with-ticks-requires : tie.Need-with-ticks-requires Inv-loop μ-loop
-with-ticks-requires c κs = search needs
-
-mul-later : tie.Need-mul-later Inv-loop μ-loop
-mul-later c = search needs
-
-element-set-from-later : tie.Need-element-set-from-later Inv-loop μ-loop
-element-set-from-later c = search needs
-
-loop-less-2 : tie.Need-loop-less-2 Inv-loop μ-loop
-loop-less-2 c = search needs
 
 loop-again-2 : tie.Need-loop-again-2 Inv-loop μ-loop
 unfolding withScheduler withThread threadAt oneIf
@@ -152,9 +86,6 @@ loop-again-2 c =
     let f = c .with-ticks .ensures ∙ ap (λ (w : Thread). withTicks (w .ticks - 1) w) q in
     (omega arith, l .inv .1, simp length-set (l .inv .2), rw f (ap (λ (w : Kernel). withScheduler w (withThread (w .scheduler) (l .t) (withTicks (threadOf w (l .t) .ticks - 1) (threadOf w (l .t))))) y ∙ sym (tick-timed (tickBelow (l .t) z) (l .t) x g) ∙ sym (more-below z (l .t))), omega (arith, l .inv .4, m, o), omega arith)
 
-loop-less-3 : tie.Need-loop-less-3 Inv-loop μ-loop
-loop-less-3 c = search needs
-
 loop-again-3 : tie.Need-loop-again-3 Inv-loop μ-loop
 unfolding withScheduler threadAt oneIf
 loop-again-3 c =
@@ -171,9 +102,6 @@ loop-again-3 c =
     let o : oneIf (lastTickb (threadOf z (l .t))) ≡ 0 = ap oneIf (ap lastTickb (sym b) ∙ x) in
     let g = ap (λ (w : Kernel). timedb (threadOf w (l .t))) (sym y) ∙ sym (ap timedb q) ∙ sym (c .before .is-timed .ensures) ∙ c .if3 .left in
     (omega arith, l .inv .1, l .inv .2, y ∙ sym (tick-none (tickBelow (l .t) z) (l .t) x g) ∙ sym (more-below z (l .t)), omega (arith, l .inv .4, m, o), omega arith)
-
-carried-requires : tie.Need-carried-requires Inv-loop μ-loop
-carried-requires c κs = search needs
 
 returns-2 : tie.Need-returns-2 Inv-loop μ-loop
 unfolding tick ticked oneMore answerOf carried answered given withHeld withScheduler withSemaphore withClock
@@ -193,34 +121,19 @@ tick-spec =
     (tie.spec
     Inv-loop
     μ-loop
-    tick-requires
-    refused-requires
+    (λ c κs. search needs) (λ c κs. search needs)
     returns
-    wrapping-add-u32-requires
+    (λ c κs. search needs)
     loop-holds
-    mul-th
-    element-copy-out-th
-    add-t
-    is-last-tick-requires
-    mul-timeout-status
-    element-copy-out-timeout-status
-    timeout-status-requires
-    of-requires
-    mul-h
-    element-set-from-h
-    cast-t31
-    woken-requires
-    add-ended
-    loop-less
+    (λ c. search needs) (λ c. search needs) (λ c. search needs) (λ c κs. search needs) (λ c. search needs)
+    (λ c. search needs) (λ c κs. search needs) (λ c κs. search needs) (λ c. search needs) (λ c. search needs)
+    (λ c. search needs) (λ c κs. search needs) (λ c. search needs) (λ c. search needs)
     loop-again
-    is-timed-requires
+    (λ c κs. search needs)
     sub-with-ticks
-    with-ticks-requires
-    mul-later
-    element-set-from-later
-    loop-less-2
+    (λ c κs. search needs) (λ c. search needs) (λ c. search needs) (λ c. search needs)
     loop-again-2
-    loop-less-3
+    (λ c. search needs)
     loop-again-3
-    carried-requires
+    (λ c κs. search needs)
     returns-2)

@@ -5,12 +5,10 @@ use Rattle.kernel.specs.Clock.{timeSet}
 use Rattle.kernel.proofs.Kernel.time_set.Statement.{statement}
 use Rattle.kernel.proofs.Kernel.time_set.Tie as tie
 
-carried-requires : tie.Need-carried-requires
-carried-requires c κs = search needs
-
 returns : tie.Need-returns
 unfolding timeSet answerOf carried answered given withHeld withScheduler withSemaphore withClock
 returns c = c .carried .ensures
 
 pub time-set-spec : {M : Type 1} → statement M
-time-set-spec = tie.close (tie.spec carried-requires returns)
+time-set-spec =
+    tie.close (tie.spec (λ c κs. search needs) returns)

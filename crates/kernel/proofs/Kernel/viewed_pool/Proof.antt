@@ -18,15 +18,6 @@ pool-unsound : (k : Kernel) (n : ℕ) → soundb k ≡ false → noPool ≡ view
 unfolding viewedPool
 pool-unsound k n e = rw e
 
-is-sound-requires : tie.Need-is-sound-requires
-is-sound-requires c κs = search needs
-
-pool-in-requires : tie.Need-pool-in-requires
-pool-in-requires c κs = search needs
-
-none-requires : tie.Need-none-requires
-none-requires c κs = search needs
-
 returns : tie.Need-returns
 unfolding poolAt
 returns c =
@@ -39,4 +30,9 @@ returns-2 c =
     c .none .ensures ∙ pool-unsound (a .self) (a .n .0) (sym (c .before .before .is-sound .ensures) ∙ c .before .if1 .left)
 
 pub viewed-pool-spec : {M : Type 1} → statement M
-viewed-pool-spec = tie.close (tie.spec is-sound-requires pool-in-requires none-requires returns returns-2)
+viewed-pool-spec =
+    tie.close
+    (tie.spec
+    (λ c κs. search needs) (λ c κs. search needs) (λ c κs. search needs)
+    returns
+    returns-2)

@@ -3,15 +3,6 @@ use Rattle.kernel.specs.Runs.{admittedAs}
 use Rattle.kernel.proofs.run.admitted.Statement.{statement}
 use Rattle.kernel.proofs.run.admitted.Tie as tie
 
-decode-requires : tie.Need-decode-requires
-decode-requires c κs = search needs
-
-enum-known-decoded : tie.Need-enum-known-decoded
-enum-known-decoded c = search needs
-
-enum-told : tie.Need-enum-told
-enum-told c = search needs
-
 returns : tie.Need-returns
 unfolding admittedAs
 returns c = rw (← c .before .before .decode .ensures, c .enum-told .given .1)
@@ -26,4 +17,9 @@ returns-3 c = rw (← c .before .before .before .before .before .decode .ensures
 
 pub admitted-spec : {M : Type 1} → statement M
 admitted-spec =
-    tie.close (tie.spec decode-requires enum-known-decoded enum-told returns returns-2 returns-3)
+    tie.close
+    (tie.spec
+    (λ c κs. search needs) (λ c. search needs) (λ c. search needs)
+    returns
+    returns-2
+    returns-3)

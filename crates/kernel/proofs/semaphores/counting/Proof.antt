@@ -8,4 +8,5 @@ unfolding counting
 returns c = refl
 
 pub counting-spec : {M : Type 1} → statement M
-counting-spec = tie.close (tie.spec returns)
+counting-spec =
+    tie.close (tie.spec returns)

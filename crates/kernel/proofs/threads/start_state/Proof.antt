@@ -9,4 +9,5 @@ returns-2 : tie.Need-returns-2
 returns-2 c = rw (ne-eqb _ _ (c .if1 .left))
 
 pub start-state-spec : {M : Type 1} → statement M
-start-state-spec = tie.close (tie.spec returns returns-2)
+start-state-spec =
+    tie.close (tie.spec returns returns-2)
