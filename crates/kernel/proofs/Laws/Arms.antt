@@ -1,5 +1,5 @@
--- Laws of the general call: its answer, by what is found before the service.
-use mathlib.Core.Path.{_≡_}
+-- Laws of the general call and of services: the answer, by what is found before the service, and for a reason to refuse.
+use mathlib.Core.Path.{_≡_, sym, ap, _∙_}
 use mathlib.Core.List.{List}
 use mathlib.Core.Bool.{Bool, true, false, not}
 use Prim.Native.Nat.{ℕ}
@@ -11,9 +11,11 @@ use Rattle.calls.specs.declared.call.Decoded.{Decoded}
 use Rattle.calls.specs.declared.call.Decoded.the-variants.{Known, Unknown}
 use Rattle.kernel.specs.declared.Kernel.{Kernel}
 use Rattle.kernel.specs.Tables.{runnerOf}
-use Rattle.kernel.specs.Answers.{answerOf, refused}
+use Rattle.kernel.specs.declared.Answer.{Answer}
+use Rattle.kernel.specs.Answers.{Outcome, answerOf, refused, guarded}
 use Rattle.kernel.specs.Sound.{soundb}
 use Rattle.kernel.specs.General.{service, nobodyRunsb, byCaller, byRecord, step, unsound, call}
+use Rattle.kernel.proofs.Laws.Answers.{is-refused}
 
 module _ (k : Kernel) (number caller a b c d : ℕ) (ms : List ℕ) where
   pub on-unsound : {s : Bool} → s ≡ soundb k → not s ≡ true → unsound k ≡ call k number caller a b c d ms
@@ -37,3 +39,8 @@ module _ (k : Kernel) (number caller a b c d : ℕ) (ms : List ℕ) where
     pub on-known : {x y : Call} → r ≡ Known x → nobodyRunsb caller (runnerOf k) ≡ false → x ≡ y → service k caller y ms ≡ step k number caller a b c d ms
     unfolding step byRecord byCaller
     on-known u n v = rw (← e, u, n, v)
+
+-- a service that finds a reason is refused for it
+pub refused-by : (k : Kernel) {found reason : ℕ} (o : Outcome) {r : Answer}
+    → r ≡ answerOf (refused k found) → found ≡ reason → (found ≡ 0 → ⊥) → r ≡ answerOf (guarded k reason o)
+refused-by k {reason = reason} o p e n = p ∙ ap answerOf (ap (refused k) e ∙ sym (is-refused k reason o (λ w. n (e ∙ w))))

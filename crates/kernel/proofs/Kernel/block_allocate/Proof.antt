@@ -9,27 +9,26 @@ use Rattle.blocks.specs.Pools.{nextBlock, withoutNext}
 use Rattle.calls.specs.Held.{waiting}
 use Rattle.calls.specs.Refusals.{allocateRefusal}
 use Rattle.kernel.specs.Tables.{poolAt, withScheduler, withHeld, withPool}
-use Rattle.kernel.specs.Answers.{answerOf, refused, carried, answered}
+use Rattle.kernel.specs.Answers.{answerOf, carried, answered}
 use Rattle.kernel.specs.Waits.{startWait}
 use Rattle.kernel.specs.Pools.{blockAllocate}
-use Rattle.kernel.proofs.Laws.Answers.{is-refused, is-carried, held-out}
+use Rattle.kernel.proofs.Laws.Answers.{is-carried, held-out}
+use Rattle.kernel.proofs.Laws.Arms.{refused-by}
 use Rattle.kernel.proofs.Kernel.block_allocate.Statement.{statement}
 use Rattle.kernel.proofs.Kernel.block_allocate.Tie as tie
 
-returns : tie.Need-returns
-unfolding blockAllocate poolAt
-returns c =
-    let a = c .before .before .before .before .before .args in
-    let e = c .before .before .allocate .ensures ∙ ap (λ (x : Pool). allocateRefusal x (a .wait) (a .caller)) (c .before .before .before .pool-in .ensures) in
-    c .refused .ensures ∙ ap answerOf (ap (refused (a .t1)) e ∙ sym (is-refused (a .t1) (allocateRefusal (poolAt (a .t1) (a .n .0)) (a .wait) (a .caller)) _ (λ w. c .before .if1 .taken (e ∙ w))))
+-- the reason that is found is that of the definition
+module _ (k : tie.After-allocate) where
+  reason : let a = k .before .before .before .args in k .allocate .result ≡ allocateRefusal (poolAt (a .t1) (a .n .0)) (a .wait) (a .caller)
+  unfolding poolAt
+  reason = let a = k .before .before .before .args in k .allocate .ensures ∙ ap (λ (x : Pool). allocateRefusal x (a .wait) (a .caller)) (k .before .pool-in .ensures)
 
 returns-2 : tie.Need-returns-2
 unfolding blockAllocate startWait answerOf carried answered withScheduler withHeld withPool poolAt
 returns-2 c =
     let a = c .before .before .before .before .before .before .before .before .args in
     let i = c .before .before .before .before .before .before .pool-in .ensures in
-    let e = c .before .before .before .before .before .allocate .ensures ∙ ap (λ (x : Pool). allocateRefusal x (a .wait) (a .caller)) i in
-    let z : allocateRefusal (poolAt (a .t1) (a .n .0)) (a .wait) (a .caller) ≡ 0 = sym e ∙ c .before .before .before .before .if1 .left in
+    let z = sym (reason (c .before .before .before .before .before)) ∙ c .before .before .before .before .if1 .left in
     let t : c .before .before .has-free .result ≡ ltb 0 (poolAt (a .t1) (a .n .0) .free) = c .before .before .has-free .ensures ∙ ap (λ (x : Pool). ltb 0 (x .free)) i in
     let l : length (a .t1 .held) ≡ 32 = length-mapped _ (a .t1 .held) 32 (c .before .before .before .before .before .before .before .before .good .0 .1 .1 .1 .0 .1 .0 .1) in
     let m : answered (c .before .if2 .self) (c .before .if2 .s) (c .before .if2 .status) (c .before .if2 .words) 0 ≡ answerOf (blockAllocate (a .t1) (a .caller) (a .n .0) (a .wait)) =
@@ -43,11 +42,12 @@ returns-2 c =
     c .carried .ensures ∙ m
 
 pub block-allocate-spec : {M : Type 1} → statement M
+unfolding blockAllocate
 block-allocate-spec =
     tie.close
     (tie.spec
     (λ c κs. search needs) (λ c κs. search needs) (λ c κs. search needs)
-    returns
+    (λ c. refused-by _ _ (c .refused .ensures) (reason (c .before .before)) (c .before .if1 .taken))
     (λ c κs. search needs) (λ c κs. search needs) (λ c. search needs) (λ c κs. search needs)
     (λ c κs. search needs) (λ c κs. search needs) (λ c. search needs) (λ c κs. search needs)
     (λ c κs. search needs) (λ c. search needs) (λ c. search needs) (λ c κs. search needs)

@@ -6,34 +6,34 @@ use Rattle.blocks.specs.Pools.{freshPool, blockSizesb}
 use Rattle.blocks.proofs.Laws.Pools.{block-half}
 use Rattle.calls.specs.Refusals.{poolCreateRefusal}
 use Rattle.kernel.specs.Tables.{poolAt, withScheduler, withPool}
-use Rattle.kernel.specs.Answers.{answerOf, refused, carried, answered}
+use Rattle.kernel.specs.Answers.{answerOf, carried, answered}
 use Rattle.kernel.specs.Pools.{poolCreate}
-use Rattle.kernel.proofs.Laws.Answers.{is-refused, is-carried, first-none, second-none, unless-none}
+use Rattle.kernel.proofs.Laws.Answers.{is-carried, first-none, second-none, unless-none}
+use Rattle.kernel.proofs.Laws.Arms.{refused-by}
 use Rattle.kernel.proofs.Kernel.block_pool_create.Statement.{statement}
 use Rattle.kernel.proofs.Kernel.block_pool_create.Tie as tie
 
-returns : tie.Need-returns
-unfolding poolCreate poolAt
-returns c =
-    let a = c .before .before .before .before .before .args in
-    let e = c .before .before .pool-create .ensures ∙ ap (λ (x : Pool). poolCreateRefusal (a .n .0) x (a .block) (a .total) (a .caller)) (c .before .before .before .pool-in .ensures) in
-    c .refused .ensures ∙ ap answerOf (ap (refused (a .self)) e ∙ sym (is-refused (a .self) (poolCreateRefusal (a .n .0) (poolAt (a .self) (a .n .0)) (a .block) (a .total) (a .caller)) _ (λ w. c .before .if1 .taken (e ∙ w))))
+-- the reason that is found is that of the definition
+module _ (k : tie.After-pool-create) where
+  reason : let a = k .before .before .before .args in k .pool-create .result ≡ poolCreateRefusal (a .n .0) (poolAt (a .self) (a .n .0)) (a .block) (a .total) (a .caller)
+  unfolding poolAt
+  reason = let a = k .before .before .before .args in k .pool-create .ensures ∙ ap (λ (x : Pool). poolCreateRefusal (a .n .0) x (a .block) (a .total) (a .caller)) (k .before .pool-in .ensures)
 
 returns-2 : tie.Need-returns-2
 unfolding poolCreate poolCreateRefusal answerOf carried answered withScheduler withPool poolAt
 returns-2 c =
     let a = c .before .before .before .before .before .before .before .before .args in
-    let e = c .before .before .before .before .before .pool-create .ensures ∙ ap (λ (x : Pool). poolCreateRefusal (a .n .0) x (a .block) (a .total) (a .caller)) (c .before .before .before .before .before .before .pool-in .ensures) in
-    let z : poolCreateRefusal (a .n .0) (poolAt (a .self) (a .n .0)) (a .block) (a .total) (a .caller) ≡ 0 = sym e ∙ c .before .before .before .before .if1 .left in
+    let z = sym (reason (c .before .before .before .before .before)) ∙ c .before .before .before .before .if1 .left in
     let s = unless-none (blockSizesb (a .block) (a .total)) 5 (omega arith) (first-none _ _ (second-none _ _ z)) in
     let x : c .before .before .of .result ≡ freshPool (a .block) (a .total) = c .before .before .of .ensures ∙ (λ j. freshPool (block-half (a .block) (a .total) s j) (a .total)) in
     rw is-carried (c .carried .ensures ∙ rw (c .before .pools-with .ensures, x))
 
 pub block-pool-create-spec : {M : Type 1} → statement M
+unfolding poolCreate
 block-pool-create-spec =
     tie.close
     (tie.spec
     (λ c κs. search needs) (λ c κs. search needs) (λ c κs. search needs)
-    returns
+    (λ c. refused-by _ _ (c .refused .ensures) (reason (c .before .before)) (c .before .if1 .taken))
     (λ c κs. search needs) (λ c κs. search needs) (λ c κs. search needs)
     returns-2)

@@ -9,27 +9,26 @@ use Rattle.calls.specs.Held.{noWords}
 use Rattle.calls.specs.Statuses.{success}
 use Rattle.calls.specs.Refusals.{releaseRefusal}
 use Rattle.kernel.specs.Tables.{poolAt, withScheduler, withHeld, withPool}
-use Rattle.kernel.specs.Answers.{answerOf, refused, carried, answered}
+use Rattle.kernel.specs.Answers.{answerOf, carried, answered}
 use Rattle.kernel.specs.Waits.{endWait}
 use Rattle.kernel.specs.Pools.{poolPlace, blockRelease}
-use Rattle.kernel.proofs.Laws.Answers.{is-refused, is-carried}
+use Rattle.kernel.proofs.Laws.Answers.{is-carried}
+use Rattle.kernel.proofs.Laws.Arms.{refused-by}
 use Rattle.kernel.proofs.Kernel.block_release.Statement.{statement}
 use Rattle.kernel.proofs.Kernel.block_release.Tie as tie
 
-returns : tie.Need-returns
-unfolding blockRelease poolAt
-returns c =
-    let a = c .before .before .before .before .before .args in
-    let e = c .before .before .release .ensures ∙ ap (λ (x : Pool). releaseRefusal x (a .block)) (c .before .before .before .pool-in .ensures) in
-    c .refused .ensures ∙ ap answerOf (ap (refused (a .t1)) e ∙ sym (is-refused (a .t1) (releaseRefusal (poolAt (a .t1) (a .n .0)) (a .block)) _ (λ w. c .before .if1 .taken (e ∙ w))))
+-- the reason that is found is that of the definition
+module _ (k : tie.After-release) where
+  reason : let a = k .before .before .before .args in k .release .result ≡ releaseRefusal (poolAt (a .t1) (a .n .0)) (a .block)
+  unfolding poolAt
+  reason = let a = k .before .before .before .args in k .release .ensures ∙ ap (λ (x : Pool). releaseRefusal x (a .block)) (k .before .pool-in .ensures)
 
 returns-2 : tie.Need-returns-2
 unfolding blockRelease endWait answerOf carried answered withHeld withScheduler withPool poolAt
 returns-2 c =
     let a = c .before .before .before .before .before .before .before .before .before .before .args in
     let i = c .before .before .before .before .before .before .before .before .pool-in .ensures in
-    let e = c .before .before .before .before .before .before .before .release .ensures ∙ ap (λ (x : Pool). releaseRefusal x (a .block)) i in
-    let z : releaseRefusal (poolAt (a .t1) (a .n .0)) (a .block) ≡ 0 = sym e ∙ c .before .before .before .before .before .before .if1 .left in
+    let z = sym (reason (c .before .before .before .before .before .before .before)) ∙ c .before .before .before .before .before .before .if1 .left in
     let f : c .before .before .before .first-at .result .0 ≡ firstAt (a .t1 .scheduler) (poolPlace (a .n .0)) = c .before .before .before .first-at .ensures ∙ ap (firstAt (a .t1 .scheduler)) (c .before .before .before .before .place .ensures) in
     let m : answered (c .before .if2 .self) (c .before .if2 .s) success noWords (c .before .if2 .ended) ≡ answerOf (blockRelease (a .t1) (a .n .0) (a .block)) =
     ⊎-elim
@@ -39,11 +38,12 @@ returns-2 c =
     c .carried .ensures ∙ m
 
 pub block-release-spec : {M : Type 1} → statement M
+unfolding blockRelease
 block-release-spec =
     tie.close
     (tie.spec
     (λ c κs. search needs) (λ c κs. search needs) (λ c κs. search needs)
-    returns
+    (λ c. refused-by _ _ (c .refused .ensures) (reason (c .before .before)) (c .before .if1 .taken))
     (λ c κs. search needs) (λ c κs. search needs) (λ c. search needs) (λ c κs. search needs)
     (λ c κs. search needs) (λ c. search needs) (λ c. search needs) (λ c κs. search needs) (λ c κs. search needs)
     (λ c κs. search needs) (λ c κs. search needs)

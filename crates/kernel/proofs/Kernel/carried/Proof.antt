@@ -1,5 +1,4 @@
 use borrow.Author.Needs.{needs}
-use Rattle.scheduler.specs.Choice.{rescheduled}
 use Rattle.kernel.specs.Tables.{withScheduler}
 use Rattle.kernel.specs.Answers.{answered}
 use Rattle.kernel.proofs.Kernel.carried.Statement.{statement}

@@ -8,39 +8,36 @@ use Rattle.calls.specs.Held.{noWords}
 use Rattle.calls.specs.Refusals.{groupDeleteRefusal}
 use Rattle.kernel.specs.declared.Kernel.{Kernel}
 use Rattle.kernel.specs.Tables.{groupAt, withGroup}
-use Rattle.kernel.specs.Answers.{answerOf, refused, carried}
+use Rattle.kernel.specs.Answers.{answerOf, carried}
 use Rattle.kernel.specs.Groups.{groupPlace, groupDelete}
 use Rattle.kernel.proofs.Laws.Waits.{each-group}
 use Rattle.kernel.proofs.Laws.Answers.{is-carried}
-use Rattle.kernel.proofs.Laws.Answers.{refused-for}
+use Rattle.kernel.proofs.Laws.Arms.{refused-by}
 use Rattle.kernel.proofs.Kernel.event_flags_delete.Statement.{statement}
 use Rattle.kernel.proofs.Kernel.event_flags_delete.Tie as tie
 
-returns : tie.Need-returns
-unfolding groupDelete groupAt
-returns c =
-    let a = c .before .before .before .before .before .args in
-    let i : c .before .before .before .group-in .result ≡ groupAt (a .self) (a .n .0) = c .before .before .before .group-in .ensures in
-    let e = c .before .before .group-delete .ensures ∙ ap (λ (g : Group). groupDeleteRefusal g (a .caller)) i in
-    c .refused .ensures ∙ ap answerOf (refused-for (a .self) (groupDeleteRefusal (groupAt (a .self) (a .n .0)) (a .caller)) (c .before .before .group-delete .result) _ (sym e) (c .before .if1 .taken))
+-- the reason that is found is that of the definition
+module _ (k : tie.After-group-delete) where
+  reason : let a = k .before .before .before .args in k .group-delete .result ≡ groupDeleteRefusal (groupAt (a .self) (a .n .0)) (a .caller)
+  unfolding groupAt
+  reason = let a = k .before .before .before .args in k .group-delete .ensures ∙ ap (λ (g : Group). groupDeleteRefusal g (a .caller)) (k .before .group-in .ensures)
 
 returns-2 : tie.Need-returns-2
 unfolding groupDelete groupAt withGroup
 returns-2 c =
     let a = c .before .before .before .before .before .before .before .before .before .before .args in
-    let i : c .before .before .before .before .before .before .before .before .group-in .result ≡ groupAt (a .self) (a .n .0) = c .before .before .before .before .before .before .before .before .group-in .ensures in
-    let e = c .before .before .before .before .before .before .before .group-delete .ensures ∙ ap (λ (g : Group). groupDeleteRefusal g (a .caller)) i in
-    let z : groupDeleteRefusal (groupAt (a .self) (a .n .0)) (a .caller) ≡ 0 = sym e ∙ c .before .before .before .before .before .before .if1 .left in
+    let z = sym (reason (c .before .before .before .before .before .before .before)) ∙ c .before .before .before .before .before .before .if1 .left in
     let line = lineAt (a .self .scheduler) (groupPlace (a .n .0)) in
     let m : members (c .before .before .before .line-at .result) ≡ line = c .before .before .before .line-at .ensures .1 ∙ ap (lineAt (a .self .scheduler)) (c .before .before .before .before .place .ensures) in
     rw is-carried (c .ended-each .ensures ∙ rw (m, c .before .groups-with .ensures, c .before .before .none .ensures) (ap (λ (k : Kernel). answerOf (carried k 0 noWords line)) (each-group (a .self) (a .n .0) noGroup 1 noWords line)))
 
 pub event-flags-delete-spec : {M : Type 1} → statement M
+unfolding groupDelete
 event-flags-delete-spec =
     tie.close
     (tie.spec
     (λ c κs. search needs) (λ c κs. search needs) (λ c κs. search needs)
-    returns
+    (λ c. refused-by _ _ (c .refused .ensures) (reason (c .before .before)) (c .before .if1 .taken))
     (λ c κs. search needs) (λ c κs. search needs) (λ c κs. search needs) (λ c κs. search needs)
     (λ c κs. search needs)
     returns-2)

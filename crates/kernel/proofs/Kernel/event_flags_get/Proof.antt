@@ -11,28 +11,26 @@ use Rattle.objects.specs.Groups.{metb}
 use Rattle.calls.specs.Held.{requesting}
 use Rattle.calls.specs.Refusals.{getRefusal}
 use Rattle.kernel.specs.Tables.{groupAt, withScheduler, withHeld, withGroup}
-use Rattle.kernel.specs.Answers.{answerOf, refused, carried, answered}
+use Rattle.kernel.specs.Answers.{answerOf, carried, answered}
 use Rattle.kernel.specs.Waits.{startWait}
 use Rattle.kernel.specs.Groups.{groupGet}
-use Rattle.kernel.proofs.Laws.Answers.{is-carried, first-none, second-none, unless-none, refused-for, held-out}
+use Rattle.kernel.proofs.Laws.Answers.{is-carried, first-none, second-none, unless-none, held-out}
+use Rattle.kernel.proofs.Laws.Arms.{refused-by}
 use Rattle.kernel.proofs.Kernel.event_flags_get.Statement.{statement}
 use Rattle.kernel.proofs.Kernel.event_flags_get.Tie as tie
 
-returns : tie.Need-returns
-unfolding groupGet groupAt
-returns c =
-    let a = c .before .before .before .before .before .args in
-    let i : c .before .before .before .group-in .result ≡ groupAt (a .t1) (a .n .0) = c .before .before .before .group-in .ensures in
-    let e = c .before .before .flags-get .ensures ∙ ap (λ (g : Group). getRefusal g (a .request) (a .option) (a .wait) (a .caller)) i in
-    c .refused .ensures ∙ ap answerOf (refused-for (a .t1) (getRefusal (groupAt (a .t1) (a .n .0)) (a .request) (a .option) (a .wait) (a .caller)) (c .before .before .flags-get .result) _ (sym e) (c .before .if1 .taken))
+-- the reason that is found is that of the definition
+module _ (k : tie.After-flags-get) where
+  reason : let a = k .before .before .before .args in k .flags-get .result ≡ getRefusal (groupAt (a .t1) (a .n .0)) (a .request) (a .option) (a .wait) (a .caller)
+  unfolding groupAt
+  reason = let a = k .before .before .before .args in k .flags-get .ensures ∙ ap (λ (g : Group). getRefusal g (a .request) (a .option) (a .wait) (a .caller)) (k .before .group-in .ensures)
 
 returns-2 : tie.Need-returns-2
 unfolding groupGet startWait groupAt getRefusal answerOf carried answered withScheduler withHeld withGroup
 returns-2 c =
     let a = c .before .before .before .before .before .before .before .before .before .args in
     let i : c .before .before .before .before .before .before .before .group-in .result ≡ groupAt (a .t1) (a .n .0) = c .before .before .before .before .before .before .before .group-in .ensures in
-    let e = c .before .before .before .before .before .before .flags-get .ensures ∙ ap (λ (g : Group). getRefusal g (a .request) (a .option) (a .wait) (a .caller)) i in
-    let z : getRefusal (groupAt (a .t1) (a .n .0)) (a .request) (a .option) (a .wait) (a .caller) ≡ 0 = sym e ∙ c .before .before .before .before .before .if1 .left in
+    let z = sym (reason (c .before .before .before .before .before .before)) ∙ c .before .before .before .before .before .if1 .left in
     let known = leb-true (a .option) 3 (unless-none (leb (a .option) 3) 8 (omega arith) (first-none _ _ (second-none _ _ z))) in
     let o : c .before .before .before .before .option-of .result ≡ a .option = let h = c .before .before .before .before .option-of .ensures in omega (arith, h, known) in
     let t : c .before .before .is-met .result ≡ metb (groupAt (a .t1) (a .n .0) .flags) (a .request) (a .option) = c .before .before .is-met .ensures ∙ (λ j. metb (i j .flags) (a .request) (o j)) in
@@ -48,11 +46,12 @@ returns-2 c =
     c .carried .ensures ∙ m
 
 pub event-flags-get-spec : {M : Type 1} → statement M
+unfolding groupGet
 event-flags-get-spec =
     tie.close
     (tie.spec
     (λ c κs. search needs) (λ c κs. search needs) (λ c κs. search needs)
-    returns
+    (λ c. refused-by _ _ (c .refused .ensures) (reason (c .before .before)) (c .before .if1 .taken))
     (λ c κs. search needs) (λ c κs. search needs) (λ c κs. search needs) (λ c κs. search needs)
     (λ c κs. search needs) (λ c κs. search needs) (λ c κs. search needs) (λ c. search needs)
     (λ c κs. search needs) (λ c κs. search needs) (λ c. search needs) (λ c. search needs) (λ c κs. search needs)

@@ -4,29 +4,26 @@ use borrow.Author.Tests.{eq-eqb, ne-eqb}
 use Rattle.objects.specs.declared.group.Group.{Group}
 use Rattle.calls.specs.Refusals.{setRefusal}
 use Rattle.kernel.specs.Tables.{groupAt, withScheduler, withGroup}
-use Rattle.kernel.specs.Answers.{answerOf, refused, carried, answered}
+use Rattle.kernel.specs.Answers.{answerOf, carried, answered}
 use Rattle.kernel.specs.Groups.{setOr, setAnd, groupSet}
 use Rattle.kernel.proofs.Laws.Answers.{is-carried}
-use Rattle.kernel.proofs.Laws.Answers.{refused-for}
 use lib.Bits.{bitOr}
+use Rattle.kernel.proofs.Laws.Arms.{refused-by}
 use Rattle.kernel.proofs.Kernel.event_flags_set.Statement.{statement}
 use Rattle.kernel.proofs.Kernel.event_flags_set.Tie as tie
 
-returns : tie.Need-returns
-unfolding groupSet groupAt
-returns c =
-    let a = c .before .before .before .before .before .args in
-    let i : c .before .before .before .group-in .result ≡ groupAt (a .self) (a .n .0) = c .before .before .before .group-in .ensures in
-    let e = c .before .before .flags-set .ensures ∙ ap (λ (g : Group). setRefusal g (a .option)) i in
-    c .refused .ensures ∙ ap answerOf (refused-for (a .self) (setRefusal (groupAt (a .self) (a .n .0)) (a .option)) (c .before .before .flags-set .result) _ (sym e) (c .before .if1 .taken))
+-- the reason that is found is that of the definition
+module _ (k : tie.After-flags-set) where
+  reason : let a = k .before .before .before .args in k .flags-set .result ≡ setRefusal (groupAt (a .self) (a .n .0)) (a .option)
+  unfolding groupAt
+  reason = let a = k .before .before .before .args in k .flags-set .ensures ∙ ap (λ (g : Group). setRefusal g (a .option)) (k .before .group-in .ensures)
 
 returns-2 : tie.Need-returns-2
 unfolding groupSet groupAt
 returns-2 c =
     let a = c .before .before .before .before .before .before .before .args in
     let i : c .before .before .before .before .before .group-in .result ≡ groupAt (a .self) (a .n .0) = c .before .before .before .before .before .group-in .ensures in
-    let e = c .before .before .before .before .flags-set .ensures ∙ ap (λ (g : Group). setRefusal g (a .option)) i in
-    let z : setRefusal (groupAt (a .self) (a .n .0)) (a .option) ≡ 0 = sym e ∙ c .before .before .before .if1 .left in
+    let z = sym (reason (c .before .before .before .before)) ∙ c .before .before .before .if1 .left in
     rw (is-carried, eq-eqb (a .option) 0 (c .before .before .if2 .taken)) (c .set-or .ensures ∙ ap (λ (g : Group). answerOf (setOr (a .self) (a .n .0) (bitOr (g .flags) (a .flags)))) i)
 
 returns-3 : tie.Need-returns-3
@@ -34,16 +31,16 @@ unfolding groupSet groupAt setAnd answerOf carried answered withScheduler withGr
 returns-3 c =
     let a = c .before .before .before .before .before .before .before .before .before .before .args in
     let i : c .before .before .before .before .before .before .before .before .group-in .result ≡ groupAt (a .self) (a .n .0) = c .before .before .before .before .before .before .before .before .group-in .ensures in
-    let e = c .before .before .before .before .before .before .before .flags-set .ensures ∙ ap (λ (g : Group). setRefusal g (a .option)) i in
-    let z : setRefusal (groupAt (a .self) (a .n .0)) (a .option) ≡ 0 = sym e ∙ c .before .before .before .before .before .before .if1 .left in
+    let z = sym (reason (c .before .before .before .before .before .before .before)) ∙ c .before .before .before .before .before .before .if1 .left in
     rw (is-carried, ne-eqb (a .option) 0 (c .before .before .before .before .before .if2 .left)) (c .carried .ensures ∙ rw (c .before .groups-with .ensures, c .before .before .of .ensures, i))
 
 pub event-flags-set-spec : {M : Type 1} → statement M
+unfolding groupSet
 event-flags-set-spec =
     tie.close
     (tie.spec
     (λ c κs. search needs) (λ c κs. search needs) (λ c κs. search needs)
-    returns
+    (λ c. refused-by _ _ (c .refused .ensures) (reason (c .before .before)) (c .before .if1 .taken))
     (λ c κs. search needs)
     returns-2
     (λ c κs. search needs) (λ c κs. search needs) (λ c κs. search needs)

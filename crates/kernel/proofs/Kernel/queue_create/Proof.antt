@@ -9,25 +9,24 @@ use Rattle.objects.specs.Queues.{sizesFitb, emptyQueue}
 use Rattle.objects.proofs.Laws.Queues.{words-byte, storage-byte}
 use Rattle.calls.specs.Refusals.{queueCreateRefusal}
 use Rattle.kernel.specs.Tables.{queueAt, withScheduler, withQueue}
-use Rattle.kernel.specs.Answers.{answerOf, refused, carried, answered}
+use Rattle.kernel.specs.Answers.{answerOf, carried, answered}
 use Rattle.kernel.specs.Queues.{queueCreate}
-use Rattle.kernel.proofs.Laws.Answers.{is-refused, is-carried, first-none, second-none, unless-none, queue-out}
+use Rattle.kernel.proofs.Laws.Answers.{is-carried, first-none, second-none, unless-none, queue-out}
+use Rattle.kernel.proofs.Laws.Arms.{refused-by}
 use Rattle.kernel.proofs.Kernel.queue_create.Statement.{statement}
 use Rattle.kernel.proofs.Kernel.queue_create.Tie as tie
 
-returns : tie.Need-returns
-unfolding queueCreate queueAt
-returns c =
-    let a = c .before .before .before .before .before .args in
-    let e = c .before .before .queue-create .ensures ∙ ap (λ (q : Queue). queueCreateRefusal (a .n .0) q (a .words) (a .storage) (a .caller)) (c .before .before .before .queue-in .ensures) in
-    c .refused .ensures ∙ ap answerOf (ap (refused (a .t1)) e ∙ sym (is-refused (a .t1) (queueCreateRefusal (a .n .0) (queueAt (a .t1) (a .n .0)) (a .words) (a .storage) (a .caller)) _ (λ w. c .before .if1 .taken (e ∙ w))))
+-- the reason that is found is that of the definition
+module _ (k : tie.After-queue-create) where
+  reason : let a = k .before .before .before .args in k .queue-create .result ≡ queueCreateRefusal (a .n .0) (queueAt (a .t1) (a .n .0)) (a .words) (a .storage) (a .caller)
+  unfolding queueAt
+  reason = let a = k .before .before .before .args in k .queue-create .ensures ∙ ap (λ (q : Queue). queueCreateRefusal (a .n .0) q (a .words) (a .storage) (a .caller)) (k .before .queue-in .ensures)
 
 returns-2 : tie.Need-returns-2
 unfolding queueCreate queueCreateRefusal answerOf carried answered withScheduler withQueue queueAt
 returns-2 c =
     let a = c .before .before .before .before .before .before .before .before .before .args in
-    let e = c .before .before .before .before .before .before .queue-create .ensures ∙ ap (λ (q : Queue). queueCreateRefusal (a .n .0) q (a .words) (a .storage) (a .caller)) (c .before .before .before .before .before .before .before .queue-in .ensures) in
-    let z : queueCreateRefusal (a .n .0) (queueAt (a .t1) (a .n .0)) (a .words) (a .storage) (a .caller) ≡ 0 = sym e ∙ c .before .before .before .before .before .if1 .left in
+    let z = sym (reason (c .before .before .before .before .before .before)) ∙ c .before .before .before .before .before .if1 .left in
     let f = unless-none (sizesFitb (a .words) (a .storage)) 5 (omega arith) (first-none _ _ (second-none _ _ z)) in
     let x : c .before .before .before .of .result ≡ emptyQueue (a .words) (a .storage) = c .before .before .before .of .ensures ∙ (λ j. emptyQueue (words-byte (a .words) (a .storage) f j) (storage-byte (a .words) (a .storage) f j)) in
     let l : length (a .t1 .queues) ≡ 8 = length-mapped _ (a .t1 .queues) 8 (c .before .before .before .before .before .before .before .before .before .good .0 .1 .1 .1 .1 .1 .0 .1 .0 .1) in
@@ -35,10 +34,11 @@ returns-2 c =
     rw is-carried (c .carried .ensures ∙ rw (m, x))
 
 pub queue-create-spec : {M : Type 1} → statement M
+unfolding queueCreate
 queue-create-spec =
     tie.close
     (tie.spec
     (λ c κs. search needs) (λ c κs. search needs) (λ c κs. search needs)
-    returns
+    (λ c. refused-by _ _ (c .refused .ensures) (reason (c .before .before)) (c .before .if1 .taken))
     (λ c κs. search needs) (λ c. search needs) (λ c. search needs) (λ c. search needs) (λ c κs. search needs)
     returns-2)

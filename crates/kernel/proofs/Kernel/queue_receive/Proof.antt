@@ -19,10 +19,11 @@ use Rattle.calls.specs.Statuses.{success}
 use Rattle.calls.specs.Refusals.{receiveRefusal}
 use Rattle.kernel.specs.declared.Kernel.{Kernel}
 use Rattle.kernel.specs.Tables.{queueAt, heldAt, withScheduler, withHeld, withQueue}
-use Rattle.kernel.specs.Answers.{answerOf, refused, carried, answered}
+use Rattle.kernel.specs.Answers.{answerOf, carried, answered}
 use Rattle.kernel.specs.Waits.{endWait, startWait}
 use Rattle.kernel.specs.Queues.{queuePlace, receivePast, receiveFrom, queueReceive}
-use Rattle.kernel.proofs.Laws.Answers.{is-refused, is-carried, held-out, queue-out}
+use Rattle.kernel.proofs.Laws.Answers.{is-carried, held-out, queue-out}
+use Rattle.kernel.proofs.Laws.Arms.{refused-by}
 use Rattle.kernel.proofs.Kernel.queue_receive.Statement.{statement}
 use Rattle.kernel.proofs.Kernel.queue_receive.Tie as tie
 
@@ -47,12 +48,11 @@ unfolding receiveFrom answerOf carried answered withScheduler withQueue
 from-store k y n wait q left s words ended t f e o a b c d w =
     (λ j. answered (withQueue (a j) n (b j)) (c j) success (d j) (w j)) ∙ rw (e, ← f, le-ltb t 32 o)
 
-returns : tie.Need-returns
-unfolding queueReceive queueAt
-returns c =
-    let a = c .before .before .before .before .before .args in
-    let e = c .before .before .receive .ensures ∙ ap (λ (q : Queue). receiveRefusal q (a .wait) (a .caller)) (c .before .before .before .queue-in .ensures) in
-    c .refused .ensures ∙ ap answerOf (ap (refused (a .t1)) e ∙ sym (is-refused (a .t1) (receiveRefusal (queueAt (a .t1) (a .n .0)) (a .wait) (a .caller)) _ (λ w. c .before .if1 .taken (e ∙ w))))
+-- the reason that is found is that of the definition
+module _ (k : tie.After-receive) where
+  reason : let a = k .before .before .before .args in k .receive .result ≡ receiveRefusal (queueAt (a .t1) (a .n .0)) (a .wait) (a .caller)
+  unfolding queueAt
+  reason = let a = k .before .before .before .args in k .receive .ensures ∙ ap (λ (q : Queue). receiveRefusal q (a .wait) (a .caller)) (k .before .queue-in .ensures)
 
 returns-2 : tie.Need-returns-2
 unfolding queueReceive queueAt receiveFrom startWait heldAt answerOf carried answered withScheduler withHeld withQueue
@@ -60,8 +60,7 @@ returns-2 c =
     let a = c .before .before .before .before .before .before .before .before .args in
     let q = c .before .before .before .before .before .before .queue-in .result in
     let i = c .before .before .before .before .before .before .queue-in .ensures in
-    let e = c .before .before .before .before .before .receive .ensures ∙ ap (λ (x : Queue). receiveRefusal x (a .wait) (a .caller)) i in
-    let z : receiveRefusal (queueAt (a .t1) (a .n .0)) (a .wait) (a .caller) ≡ 0 = sym e ∙ c .before .before .before .before .if1 .left in
+    let z = sym (reason (c .before .before .before .before .before)) ∙ c .before .before .before .before .if1 .left in
     let l : length (a .t1 .held) ≡ 32 = length-mapped _ (a .t1 .held) 32 (c .before .before .before .before .before .before .before .before .good .0 .1 .1 .1 .0 .1 .0 .1) in
     let u : length (a .t1 .queues) ≡ 8 = length-mapped _ (a .t1 .queues) 8 (c .before .before .before .before .before .before .before .before .good .0 .1 .1 .1 .1 .1 .0 .1 .0 .1) in
     let m : answered (c .before .if2 .self) (c .before .if2 .s) (c .before .if2 .status) (c .before .if2 .words) (c .before .if2 .ended) ≡ answerOf (receiveFrom (a .t1) (a .n .0) q (a .wait)) =
@@ -103,11 +102,12 @@ returns-2 c =
     rw is-carried (c .carried .ensures ∙ m ∙ ap (λ (x : Queue). answerOf (receiveFrom (a .t1) (a .n .0) x (a .wait))) i)
 
 pub queue-receive-spec : {M : Type 1} → statement M
+unfolding queueReceive
 queue-receive-spec =
     tie.close
     (tie.spec
     (λ c κs. search needs) (λ c κs. search needs) (λ c κs. search needs)
-    returns
+    (λ c. refused-by _ _ (c .refused .ensures) (reason (c .before .before)) (c .before .if1 .taken))
     (λ c κs. search needs) (λ c. search needs) (λ c κs. search needs) (λ c κs. search needs) (λ c. search needs)
     (λ c. search needs) (λ c κs. search needs) (λ c κs. search needs) (λ c. search needs) (λ c. search needs)
     (λ c. search needs) (λ c κs. search needs) (λ c κs. search needs) (λ c κs. search needs) (λ c. search needs)

@@ -10,19 +10,19 @@ use Rattle.calls.specs.Held.{noWords, sending}
 use Rattle.calls.specs.Messages.{messageIn}
 use Rattle.calls.specs.Refusals.{sendRefusal}
 use Rattle.kernel.specs.Tables.{queueAt, withScheduler, withHeld, withQueue}
-use Rattle.kernel.specs.Answers.{answerOf, refused, carried, answered}
+use Rattle.kernel.specs.Answers.{answerOf, carried, answered}
 use Rattle.kernel.specs.Waits.{endWait, startWait}
 use Rattle.kernel.specs.Queues.{sendTo, queueSend}
-use Rattle.kernel.proofs.Laws.Answers.{is-refused, is-carried, held-out, queue-out}
+use Rattle.kernel.proofs.Laws.Answers.{is-carried, held-out, queue-out}
+use Rattle.kernel.proofs.Laws.Arms.{refused-by}
 use Rattle.kernel.proofs.Kernel.queue_send.Statement.{statement}
 use Rattle.kernel.proofs.Kernel.queue_send.Tie as tie
 
-returns : tie.Need-returns
-unfolding queueSend queueAt
-returns c =
-    let a = c .before .before .before .before .before .before .args in
-    let e = c .before .before .send .ensures ∙ ap (λ (q : Queue). sendRefusal q (a .index) (length (a .messages .now)) (a .wait) (a .caller)) (c .before .before .before .queue-in .ensures) in
-    c .refused .ensures ∙ ap answerOf (ap (refused (a .t1)) e ∙ sym (is-refused (a .t1) (sendRefusal (queueAt (a .t1) (a .n .0)) (a .index) (length (a .messages .now)) (a .wait) (a .caller)) _ (λ w. c .before .if1 .taken (e ∙ w))))
+-- the reason that is found is that of the definition
+module _ (k : tie.After-send) where
+  reason : let a = k .before .before .before .before .args in k .send .result ≡ sendRefusal (queueAt (a .t1) (a .n .0)) (a .index) (length (a .messages .now)) (a .wait) (a .caller)
+  unfolding queueAt
+  reason = let a = k .before .before .before .before .args in k .send .ensures ∙ ap (λ (q : Queue). sendRefusal q (a .index) (length (a .messages .now)) (a .wait) (a .caller)) (k .before .queue-in .ensures)
 
 returns-2 : tie.Need-returns-2
 unfolding queueSend queueAt sendTo endWait startWait answerOf carried answered withScheduler withHeld withQueue
@@ -30,8 +30,7 @@ returns-2 c =
     let a = c .before .before .before .before .before .before .before .before .before .before .args in
     let q = c .before .before .before .before .before .before .before .queue-in .result in
     let i = c .before .before .before .before .before .before .before .queue-in .ensures in
-    let e = c .before .before .before .before .before .before .send .ensures ∙ ap (λ (x : Queue). sendRefusal x (a .index) (length (a .messages .now)) (a .wait) (a .caller)) i in
-    let z : sendRefusal (queueAt (a .t1) (a .n .0)) (a .index) (length (a .messages .now)) (a .wait) (a .caller) ≡ 0 = sym e ∙ c .before .before .before .before .before .if1 .left in
+    let z = sym (reason (c .before .before .before .before .before .before)) ∙ c .before .before .before .before .before .if1 .left in
     let l : length (a .t1 .held) ≡ 32 = length-mapped _ (a .t1 .held) 32 (c .before .before .before .before .before .before .before .before .before .before .good .0 .1 .1 .1 .0 .1 .0 .1) in
     let u : length (a .t1 .queues) ≡ 8 = length-mapped _ (a .t1 .queues) 8 (c .before .before .before .before .before .before .before .before .before .before .good .0 .1 .1 .1 .1 .1 .0 .1 .0 .1) in
     let m : answered (c .before .if2 .self) (c .before .if2 .s) (c .before .if2 .status) noWords (c .before .if2 .ended) ≡ answerOf (sendTo (a .t1) (a .n .0) q (a .wait) (a .front) (c .before .before .before .before .message-in .result)) =
@@ -51,11 +50,12 @@ returns-2 c =
     rw is-carried (c .carried .ensures ∙ m ∙ rw (c .before .before .before .before .message-in .ensures) (ap (λ (x : Queue). answerOf (sendTo (a .t1) (a .n .0) x (a .wait) (a .front) (messageIn (a .messages .now) (a .index) (x .words)))) i))
 
 pub queue-send-spec : {M : Type 1} → statement M
+unfolding queueSend
 queue-send-spec =
     tie.close
     (tie.spec
     (λ c κs. search needs) (λ c κs. search needs) (λ c κs. search needs)
-    returns
+    (λ c. refused-by _ _ (c .refused .ensures) (reason (c .before .before)) (c .before .if1 .taken))
     (λ c κs. search needs) (λ c κs. search needs) (λ c κs. search needs) (λ c κs. search needs)
     (λ c. search needs) (λ c κs. search needs) (λ c. search needs) (λ c. search needs) (λ c κs. search needs)
     (λ c κs. search needs) (λ c. search needs) (λ c. search needs) (λ c. search needs) (λ c. search needs)

@@ -8,27 +8,26 @@ use Rattle.objects.specs.declared.semaphore.Semaphore.{Semaphore}
 use Rattle.calls.specs.Held.{noWords, waiting}
 use Rattle.calls.specs.Refusals.{semaphoreGetRefusal}
 use Rattle.kernel.specs.Tables.{semaphoreAt, withScheduler, withHeld, withSemaphore}
-use Rattle.kernel.specs.Answers.{answerOf, refused, carried, answered}
+use Rattle.kernel.specs.Answers.{answerOf, carried, answered}
 use Rattle.kernel.specs.Waits.{startWait}
 use Rattle.kernel.specs.Semaphores.{semaphoreGet}
-use Rattle.kernel.proofs.Laws.Answers.{is-refused, is-carried, held-out}
+use Rattle.kernel.proofs.Laws.Answers.{is-carried, held-out}
+use Rattle.kernel.proofs.Laws.Arms.{refused-by}
 use Rattle.kernel.proofs.Kernel.semaphore_get.Statement.{statement}
 use Rattle.kernel.proofs.Kernel.semaphore_get.Tie as tie
 
-returns : tie.Need-returns
-unfolding semaphoreGet semaphoreAt
-returns c =
-    let a = c .before .before .before .before .before .args in
-    let e = c .before .before .semaphore-get .ensures ∙ ap (λ (x : Semaphore). semaphoreGetRefusal x (a .wait) (a .caller)) (c .before .before .before .semaphore-in .ensures) in
-    c .refused .ensures ∙ ap answerOf (ap (refused (a .t1)) e ∙ sym (is-refused (a .t1) (semaphoreGetRefusal (semaphoreAt (a .t1) (a .n .0)) (a .wait) (a .caller)) _ (λ w. c .before .if1 .taken (e ∙ w))))
+-- the reason that is found is that of the definition
+module _ (k : tie.After-semaphore-get) where
+  reason : let a = k .before .before .before .args in k .semaphore-get .result ≡ semaphoreGetRefusal (semaphoreAt (a .t1) (a .n .0)) (a .wait) (a .caller)
+  unfolding semaphoreAt
+  reason = let a = k .before .before .before .args in k .semaphore-get .ensures ∙ ap (λ (x : Semaphore). semaphoreGetRefusal x (a .wait) (a .caller)) (k .before .semaphore-in .ensures)
 
 returns-2 : tie.Need-returns-2
 unfolding semaphoreGet startWait answerOf carried answered withScheduler withHeld withSemaphore semaphoreAt
 returns-2 c =
     let a = c .before .before .before .before .before .before .before .before .args in
     let x = c .before .before .before .before .before .before .semaphore-in .result in
-    let e = c .before .before .before .before .before .semaphore-get .ensures ∙ ap (λ (y : Semaphore). semaphoreGetRefusal y (a .wait) (a .caller)) (c .before .before .before .before .before .before .semaphore-in .ensures) in
-    let z : semaphoreGetRefusal (semaphoreAt (a .t1) (a .n .0)) (a .wait) (a .caller) ≡ 0 = sym e ∙ c .before .before .before .before .if1 .left in
+    let z = sym (reason (c .before .before .before .before .before)) ∙ c .before .before .before .before .if1 .left in
     let l : length (a .t1 .held) ≡ 32 = length-mapped _ (a .t1 .held) 32 (c .before .before .before .before .before .before .before .before .good .0 .1 .1 .1 .0 .1 .0 .1) in
     let m : answered (c .before .if2 .self) (c .before .if2 .s) (c .before .if2 .status) noWords 0 ≡ answerOf (semaphoreGet (a .t1) (a .caller) (a .n .0) (a .wait)) =
     ⊎-elim
@@ -41,11 +40,12 @@ returns-2 c =
     c .carried .ensures ∙ m
 
 pub semaphore-get-spec : {M : Type 1} → statement M
+unfolding semaphoreGet
 semaphore-get-spec =
     tie.close
     (tie.spec
     (λ c κs. search needs) (λ c κs. search needs) (λ c κs. search needs)
-    returns
+    (λ c. refused-by _ _ (c .refused .ensures) (reason (c .before .before)) (c .before .if1 .taken))
     (λ c. search needs) (λ c κs. search needs) (λ c κs. search needs) (λ c. search needs) (λ c κs. search needs)
     (λ c κs. search needs) (λ c. search needs) (λ c. search needs) (λ c κs. search needs)
     returns-2)

@@ -4,28 +4,25 @@ use borrow.Author.Needs.{needs}
 use lib.Dec.{leb}
 use borrow.Author.Tests.{leb-true}
 use Rattle.scheduler.specs.declared.thread.Thread.{Thread}
-use Rattle.scheduler.specs.Threads.{created}
 use Rattle.calls.specs.Refusals.{unless, preemptionRefusal}
 use Rattle.kernel.specs.Tables.{threadOf, withScheduler, withHeld, withSemaphore, withClock, given}
-use Rattle.kernel.specs.Answers.{answerOf, refused, carried, answered}
+use Rattle.kernel.specs.Answers.{answerOf, carried, answered}
 use Rattle.kernel.specs.Threads.{threadPreemptionChange}
-use Rattle.kernel.proofs.Laws.Answers.{is-refused, is-carried, first-none, second-none, unless-none}
+use Rattle.kernel.proofs.Laws.Answers.{is-carried, first-none, second-none, unless-none}
+use Rattle.kernel.proofs.Laws.Arms.{refused-by}
 use Rattle.kernel.proofs.Kernel.thread_preemption_change.Statement.{statement}
 use Rattle.kernel.proofs.Kernel.thread_preemption_change.Tie as tie
 
-returns : tie.Need-returns
-unfolding threadPreemptionChange
-returns c =
-    let a = c .before .before .before .before .before .args in
-    let e = c .before .before .preemption-change .ensures ∙ ap (λ (x : Thread). preemptionRefusal x (a .threshold) (a .caller)) (c .before .before .before .thread-at .ensures) in
-    c .refused .ensures ∙ ap answerOf (ap (refused (a .self)) e ∙ sym (is-refused (a .self) (preemptionRefusal (threadOf (a .self) (a .t .0)) (a .threshold) (a .caller)) _ (λ w. c .before .if1 .taken (e ∙ w))))
+-- the reason that is found is that of the definition
+module _ (k : tie.After-preemption-change) where
+  reason : let a = k .before .before .before .args in k .preemption-change .result ≡ preemptionRefusal (threadOf (a .self) (a .t .0)) (a .threshold) (a .caller)
+  reason = let a = k .before .before .before .args in k .preemption-change .ensures ∙ ap (λ (x : Thread). preemptionRefusal x (a .threshold) (a .caller)) (k .before .thread-at .ensures)
 
 cast-preemption-changed : tie.Need-cast-preemption-changed
 unfolding preemptionRefusal
 cast-preemption-changed c =
     let a = c .before .before .before .before .before .before .args in
-    let e = c .before .before .before .preemption-change .ensures ∙ ap (λ (x : Thread). preemptionRefusal x (a .threshold) (a .caller)) (c .before .before .before .before .thread-at .ensures) in
-    let w = second-none (unless (threadOf (a .self) (a .t .0) .created) 14) _ (sym e ∙ c .before .before .if1 .left) in
+    let w = second-none (unless (threadOf (a .self) (a .t .0) .created) 14) _ (sym (reason (c .before .before .before)) ∙ c .before .before .if1 .left) in
     let m = leb-true (a .threshold) (threadOf (a .self) (a .t .0) .priority) (unless-none (leb (a .threshold) (threadOf (a .self) (a .t .0) .priority)) 24 (omega arith) (first-none (unless (leb (a .threshold) (threadOf (a .self) (a .t .0) .priority)) 24) _ w)) in
     let q = ap (λ (x : Thread). x .priority) (c .before .before .before .before .thread-at .ensures) in
     omega (arith, m, q, c .before .struct-known .given .1 .1 .0)
@@ -33,17 +30,16 @@ cast-preemption-changed c =
 returns-2 : tie.Need-returns-2
 unfolding threadPreemptionChange answerOf carried answered given withHeld withScheduler withSemaphore withClock
 returns-2 c =
-    let a = c .before .before .before .before .before .before .before .before .args in
-    let e = c .before .before .before .before .before .preemption-change .ensures ∙ ap (λ (x : Thread). preemptionRefusal x (a .threshold) (a .caller)) (c .before .before .before .before .before .before .thread-at .ensures) in
-    let z : preemptionRefusal (threadOf (a .self) (a .t .0)) (a .threshold) (a .caller) ≡ 0 = sym e ∙ c .before .before .before .before .if1 .left in
+    let z = sym (reason (c .before .before .before .before .before)) ∙ c .before .before .before .before .if1 .left in
     rw (is-carried, ← c .before .before .before .before .before .before .thread-at .ensures) (c .carried .ensures ∙ rw (c .before .preemption-changed .ensures, c .before .before .two-words .ensures))
 
 pub thread-preemption-change-spec : {M : Type 1} → statement M
+unfolding threadPreemptionChange
 thread-preemption-change-spec =
     tie.close
     (tie.spec
     (λ c κs. search needs) (λ c κs. search needs) (λ c κs. search needs)
-    returns
+    (λ c. refused-by _ _ (c .refused .ensures) (reason (c .before .before)) (c .before .if1 .taken))
     (λ c. search needs) (λ c κs. search needs)
     cast-preemption-changed
     (λ c κs. search needs) (λ c κs. search needs)

@@ -4,45 +4,41 @@ use borrow.Author.Needs.{needs}
 use borrow.Author.Tests.{ltb-true}
 use lib.Dec.{ltb}
 use Rattle.scheduler.specs.declared.thread.Thread.{Thread}
-use Rattle.scheduler.specs.Threads.{created}
 use Rattle.calls.specs.Refusals.{unless, priorityRefusal}
 use Rattle.kernel.specs.Tables.{threadOf, withScheduler, withHeld, withSemaphore, withClock, given}
-use Rattle.kernel.specs.Answers.{answerOf, refused, carried, answered}
+use Rattle.kernel.specs.Answers.{answerOf, carried, answered}
 use Rattle.kernel.specs.Threads.{threadPriorityChange}
-use Rattle.kernel.proofs.Laws.Answers.{is-refused, is-carried, first-none, second-none, unless-none}
+use Rattle.kernel.proofs.Laws.Answers.{is-carried, first-none, second-none, unless-none}
+use Rattle.kernel.proofs.Laws.Arms.{refused-by}
 use Rattle.kernel.proofs.Kernel.thread_priority_change.Statement.{statement}
 use Rattle.kernel.proofs.Kernel.thread_priority_change.Tie as tie
 
-returns : tie.Need-returns
-unfolding threadPriorityChange
-returns c =
-    let a = c .before .before .before .before .before .args in
-    let e = c .before .before .priority-change .ensures ∙ ap (λ (x : Thread). priorityRefusal x (a .priority) (a .caller)) (c .before .before .before .thread-at .ensures) in
-    c .refused .ensures ∙ ap answerOf (ap (refused (a .self)) e ∙ sym (is-refused (a .self) (priorityRefusal (threadOf (a .self) (a .t .0)) (a .priority) (a .caller)) _ (λ w. c .before .if1 .taken (e ∙ w))))
+-- the reason that is found is that of the definition
+module _ (k : tie.After-priority-change) where
+  reason : let a = k .before .before .before .args in k .priority-change .result ≡ priorityRefusal (threadOf (a .self) (a .t .0)) (a .priority) (a .caller)
+  reason = let a = k .before .before .before .args in k .priority-change .ensures ∙ ap (λ (x : Thread). priorityRefusal x (a .priority) (a .caller)) (k .before .thread-at .ensures)
 
 cast-priority-changed : tie.Need-cast-priority-changed
 unfolding priorityRefusal
 cast-priority-changed c =
     let a = c .before .before .before .before .before .before .args in
-    let e = c .before .before .before .priority-change .ensures ∙ ap (λ (x : Thread). priorityRefusal x (a .priority) (a .caller)) (c .before .before .before .before .thread-at .ensures) in
-    let w = second-none (unless (threadOf (a .self) (a .t .0) .created) 14) _ (sym e ∙ c .before .before .if1 .left) in
+    let w = second-none (unless (threadOf (a .self) (a .t .0) .created) 14) _ (sym (reason (c .before .before .before)) ∙ c .before .before .if1 .left) in
     let l = ltb-true (a .priority) 32 (unless-none (ltb (a .priority) 32) 15 (omega arith) (first-none (unless (ltb (a .priority) 32) 15) _ w)) in
     omega (arith, l)
 
 returns-2 : tie.Need-returns-2
 unfolding threadPriorityChange answerOf carried answered given withHeld withScheduler withSemaphore withClock
 returns-2 c =
-    let a = c .before .before .before .before .before .before .before .before .args in
-    let e = c .before .before .before .before .before .priority-change .ensures ∙ ap (λ (x : Thread). priorityRefusal x (a .priority) (a .caller)) (c .before .before .before .before .before .before .thread-at .ensures) in
-    let z : priorityRefusal (threadOf (a .self) (a .t .0)) (a .priority) (a .caller) ≡ 0 = sym e ∙ c .before .before .before .before .if1 .left in
+    let z = sym (reason (c .before .before .before .before .before)) ∙ c .before .before .before .before .if1 .left in
     rw (is-carried, ← c .before .before .before .before .before .before .thread-at .ensures) (c .carried .ensures ∙ rw (c .before .priority-changed .ensures, c .before .before .two-words .ensures))
 
 pub thread-priority-change-spec : {M : Type 1} → statement M
+unfolding threadPriorityChange
 thread-priority-change-spec =
     tie.close
     (tie.spec
     (λ c κs. search needs) (λ c κs. search needs) (λ c κs. search needs)
-    returns
+    (λ c. refused-by _ _ (c .refused .ensures) (reason (c .before .before)) (c .before .if1 .taken))
     (λ c. search needs) (λ c κs. search needs)
     cast-priority-changed
     (λ c κs. search needs) (λ c κs. search needs)

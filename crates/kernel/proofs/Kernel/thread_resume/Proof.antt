@@ -3,28 +3,25 @@ use mathlib.Core.Bool.{Bool, true, false}
 use borrow.Author.Needs.{needs}
 use Rattle.lines.specs.Logic.{if_then_else_}
 use Rattle.scheduler.specs.declared.thread.Thread.{Thread}
-use Rattle.scheduler.specs.Orders.{moved}
 use Rattle.calls.specs.Refusals.{resumeRefusal}
 use Rattle.kernel.specs.Tables.{threadOf, withScheduler, withHeld, withSemaphore, withClock, given}
-use Rattle.kernel.specs.Answers.{answerOf, refused, carried, answered}
+use Rattle.kernel.specs.Answers.{answerOf, carried, answered}
 use Rattle.kernel.specs.Threads.{lifted, resumed, threadResume}
-use Rattle.kernel.proofs.Laws.Answers.{is-refused, is-carried}
+use Rattle.kernel.proofs.Laws.Answers.{is-carried}
+use Rattle.kernel.proofs.Laws.Arms.{refused-by}
 use Rattle.kernel.proofs.Kernel.thread_resume.Statement.{statement}
 use Rattle.kernel.proofs.Kernel.thread_resume.Tie as tie
 
-returns : tie.Need-returns
-unfolding threadResume
-returns c =
-    let a = c .before .before .before .before .before .args in
-    let e = c .before .before .resume .ensures ∙ ap (λ (x : Thread). resumeRefusal x) (c .before .before .before .thread-at .ensures) in
-    c .refused .ensures ∙ ap answerOf (ap (refused (a .self)) e ∙ sym (is-refused (a .self) (resumeRefusal (threadOf (a .self) (a .t .0))) _ (λ w. c .before .if1 .taken (e ∙ w))))
+-- the reason that is found is that of the definition
+module _ (k : tie.After-resume) where
+  reason : let a = k .before .before .before .args in k .resume .result ≡ resumeRefusal (threadOf (a .self) (a .t .0))
+  reason = k .resume .ensures ∙ ap resumeRefusal (k .before .thread-at .ensures)
 
 returns-2 : tie.Need-returns-2
 unfolding threadResume lifted answerOf carried answered given withHeld withScheduler withSemaphore withClock
 returns-2 c =
     let a = c .before .before .before .before .before .before .before .before .args in
-    let e = c .before .before .before .before .before .resume .ensures ∙ ap (λ (x : Thread). resumeRefusal x) (c .before .before .before .before .before .before .thread-at .ensures) in
-    let z : resumeRefusal (threadOf (a .self) (a .t .0)) ≡ 0 = sym e ∙ c .before .before .before .before .if1 .left in
+    let z = sym (reason (c .before .before .before .before .before)) ∙ c .before .before .before .before .if1 .left in
     let y : threadOf (a .self) (a .t .0) .suspending ≡ true = ap (λ (x : Thread). x .suspending) (sym (c .before .before .before .before .before .before .thread-at .ensures)) ∙ c .before .before .before .if2 .taken in
     rw is-carried ((c .carried .ensures ∙ rw (c .before .with-thread .ensures, c .before .before .with-suspension .ensures, c .before .before .before .before .before .before .thread-at .ensures)) ∙ ap answerOf (sym (ap (λ (b : Bool). if b then lifted (a .self) (a .t .0) else resumed (a .self) (a .t .0)) y)))
 
@@ -32,17 +29,17 @@ returns-3 : tie.Need-returns-3
 unfolding threadResume resumed answerOf carried answered given withHeld withScheduler withSemaphore withClock
 returns-3 c =
     let a = c .before .before .before .before .before .before .before .before .args in
-    let e = c .before .before .before .before .before .resume .ensures ∙ ap (λ (x : Thread). resumeRefusal x) (c .before .before .before .before .before .before .thread-at .ensures) in
-    let z : resumeRefusal (threadOf (a .self) (a .t .0)) ≡ 0 = sym e ∙ c .before .before .before .before .if1 .left in
+    let z = sym (reason (c .before .before .before .before .before)) ∙ c .before .before .before .before .if1 .left in
     let y : threadOf (a .self) (a .t .0) .suspending ≡ false = ap (λ (x : Thread). x .suspending) (sym (c .before .before .before .before .before .before .thread-at .ensures)) ∙ c .before .before .before .if2 .left in
     rw is-carried ((c .carried2 .ensures ∙ rw (c .before .moved .ensures, c .before .before .in-state .ensures, c .before .before .before .before .before .before .thread-at .ensures)) ∙ ap answerOf (sym (ap (λ (b : Bool). if b then lifted (a .self) (a .t .0) else resumed (a .self) (a .t .0)) y)))
 
 pub thread-resume-spec : {M : Type 1} → statement M
+unfolding threadResume
 thread-resume-spec =
     tie.close
     (tie.spec
     (λ c κs. search needs) (λ c κs. search needs) (λ c κs. search needs)
-    returns
+    (λ c. refused-by _ _ (c .refused .ensures) (reason (c .before .before)) (c .before .if1 .taken))
     (λ c κs. search needs) (λ c κs. search needs) (λ c κs. search needs)
     returns-2
     (λ c κs. search needs) (λ c κs. search needs) (λ c κs. search needs)

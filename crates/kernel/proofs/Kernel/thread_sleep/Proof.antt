@@ -1,5 +1,5 @@
 use borrow.Author.Needs.{needs}
-use mathlib.Core.Path.{_≡_, sym, ap, _∙_}
+use mathlib.Core.Path.{_≡_, sym, _∙_}
 use mathlib.Core.Logic.{⊎-elim}
 use borrow.Author.Tests.{eq-eqb, ne-eqb}
 use lib.ListN.{length}
@@ -7,26 +7,24 @@ use Rattle.scheduler.proofs.Laws.Threads.{length-mapped}
 use Rattle.calls.specs.Held.{noWords, waiting}
 use Rattle.calls.specs.Refusals.{threadOnlyRefusal}
 use Rattle.kernel.specs.Tables.{withScheduler, withHeld}
-use Rattle.kernel.specs.Answers.{answerOf, refused, carried, answered}
+use Rattle.kernel.specs.Answers.{answerOf, carried, answered}
 use Rattle.kernel.specs.Waits.{startWait}
 use Rattle.kernel.specs.Threads.{threadSleep}
-use Rattle.kernel.proofs.Laws.Answers.{is-refused, is-carried, held-out}
+use Rattle.kernel.proofs.Laws.Answers.{is-carried, held-out}
+use Rattle.kernel.proofs.Laws.Arms.{refused-by}
 use Rattle.kernel.proofs.Kernel.thread_sleep.Statement.{statement}
 use Rattle.kernel.proofs.Kernel.thread_sleep.Tie as tie
 
-returns : tie.Need-returns
-unfolding threadSleep
-returns c =
-    let a = c .before .before .before .args in
-    let e = c .before .before .thread-only .ensures in
-    c .refused .ensures ∙ ap answerOf (ap (refused (a .t1)) e ∙ sym (is-refused (a .t1) (threadOnlyRefusal (a .caller)) _ (λ w. c .before .if1 .taken (e ∙ w))))
+-- the reason that is found is that of the definition
+module _ (k : tie.After-thread-only) where
+  reason : let a = k .before .args in k .thread-only .result ≡ threadOnlyRefusal (a .caller)
+  reason = k .thread-only .ensures
 
 returns-2 : tie.Need-returns-2
 unfolding threadSleep startWait answerOf carried answered withScheduler withHeld
 returns-2 c =
     let a = c .before .before .before .before .before .args in
-    let e = c .before .before .before .before .thread-only .ensures in
-    let z : threadOnlyRefusal (a .caller) ≡ 0 = sym e ∙ c .before .before .before .if1 .left in
+    let z = sym (reason (c .before .before .before .before)) ∙ c .before .before .before .if1 .left in
     let l : length (a .t1 .held) ≡ 32 = length-mapped _ (a .t1 .held) 32 (c .before .before .before .before .before .good .0 .1 .1 .1 .0 .1 .0 .1) in
     let m : answered (c .before .if2 .self) (c .before .if2 .s) (c .before .if2 .status) noWords 0 ≡ answerOf (threadSleep (a .t1) (a .caller) (a .ticks)) =
     ⊎-elim
@@ -39,11 +37,12 @@ returns-2 c =
     c .carried .ensures ∙ m
 
 pub thread-sleep-spec : {M : Type 1} → statement M
+unfolding threadSleep
 thread-sleep-spec =
     tie.close
     (tie.spec
     (λ c κs. search needs) (λ c κs. search needs)
-    returns
+    (λ c. refused-by _ _ (c .refused .ensures) (reason (c .before .before)) (c .before .if1 .taken))
     (λ c. search needs) (λ c κs. search needs) (λ c κs. search needs) (λ c. search needs) (λ c. search needs)
     (λ c κs. search needs)
     returns-2)

@@ -1,52 +1,44 @@
 use mathlib.Core.Path.{_≡_, sym, ap, _∙_}
 use borrow.Author.Needs.{needs}
-use Rattle.scheduler.specs.declared.thread.Thread.{Thread}
-use Rattle.scheduler.specs.Orders.{moved}
 use Rattle.calls.specs.Refusals.{suspendRefusal}
 use Rattle.kernel.specs.Tables.{threadOf, withScheduler, withHeld, withSemaphore, withClock, given}
-use Rattle.kernel.specs.Answers.{answerOf, refused, carried, answered}
+use Rattle.kernel.specs.Answers.{answerOf, carried, answered}
 use Rattle.kernel.specs.Threads.{threadSuspend}
-use Rattle.kernel.proofs.Laws.Answers.{is-refused, is-carried}
+use Rattle.kernel.proofs.Laws.Answers.{is-carried}
+use Rattle.kernel.proofs.Laws.Arms.{refused-by}
 use Rattle.kernel.proofs.Kernel.thread_suspend.Statement.{statement}
 use Rattle.kernel.proofs.Kernel.thread_suspend.Tie as tie
 
-returns : tie.Need-returns
-unfolding threadSuspend
-returns c =
-    let a = c .before .before .before .before .before .args in
-    let e = c .before .before .suspend .ensures ∙ ap (λ (x : Thread). suspendRefusal x) (c .before .before .before .thread-at .ensures) in
-    c .refused .ensures ∙ ap answerOf (ap (refused (a .self)) e ∙ sym (is-refused (a .self) (suspendRefusal (threadOf (a .self) (a .t .0))) _ (λ w. c .before .if1 .taken (e ∙ w))))
+-- the reason that is found is that of the definition
+module _ (k : tie.After-suspend) where
+  reason : let a = k .before .before .before .args in k .suspend .result ≡ suspendRefusal (threadOf (a .self) (a .t .0))
+  reason = k .suspend .ensures ∙ ap suspendRefusal (k .before .thread-at .ensures)
 
 returns-2 : tie.Need-returns-2
 unfolding threadSuspend answerOf carried answered given withHeld withScheduler withSemaphore withClock
 returns-2 c =
-    let a = c .before .before .before .before .before .before .before .before .before .args in
-    let e = c .before .before .before .before .before .before .suspend .ensures ∙ ap (λ (x : Thread). suspendRefusal x) (c .before .before .before .before .before .before .before .thread-at .ensures) in
-    let z : suspendRefusal (threadOf (a .self) (a .t .0)) ≡ 0 = sym e ∙ c .before .before .before .before .before .if1 .left in
+    let z = sym (reason (c .before .before .before .before .before .before)) ∙ c .before .before .before .before .before .if1 .left in
     rw (is-carried, ← c .before .before .before .before .before .before .before .thread-at .ensures, ← c .before .before .before .before .is-paused .ensures, c .before .before .before .if2 .taken) (c .carried .ensures ∙ rw (c .before .with-thread .ensures, c .before .before .with-suspension .ensures))
 
 returns-3 : tie.Need-returns-3
 unfolding threadSuspend answerOf carried answered given withHeld withScheduler withSemaphore withClock
 returns-3 c =
-    let a = c .before .before .before .before .before .before .before .before .before .before .before .args in
-    let e = c .before .before .before .before .before .before .before .before .suspend .ensures ∙ ap (λ (x : Thread). suspendRefusal x) (c .before .before .before .before .before .before .before .before .before .thread-at .ensures) in
-    let z : suspendRefusal (threadOf (a .self) (a .t .0)) ≡ 0 = sym e ∙ c .before .before .before .before .before .before .before .if1 .left in
+    let z = sym (reason (c .before .before .before .before .before .before .before .before)) ∙ c .before .before .before .before .before .before .before .if1 .left in
     rw (is-carried, ← c .before .before .before .before .before .before .before .before .before .thread-at .ensures, ← c .before .before .before .before .before .before .is-paused .ensures, c .before .before .before .before .before .if2 .left, ← c .before .before .before .before .is-ready .ensures, c .before .before .before .if3 .taken) (c .carried2 .ensures ∙ rw (c .before .moved .ensures, c .before .before .in-state .ensures))
 
 returns-4 : tie.Need-returns-4
 unfolding threadSuspend answerOf carried answered given withHeld withScheduler withSemaphore withClock
 returns-4 c =
-    let a = c .before .before .before .before .before .before .before .before .before .args in
-    let e = c .before .before .before .before .before .before .suspend .ensures ∙ ap (λ (x : Thread). suspendRefusal x) (c .before .before .before .before .before .before .before .thread-at .ensures) in
-    let z : suspendRefusal (threadOf (a .self) (a .t .0)) ≡ 0 = sym e ∙ c .before .before .before .before .before .if1 .left in
+    let z = sym (reason (c .before .before .before .before .before .before)) ∙ c .before .before .before .before .before .if1 .left in
     rw (is-carried, ← c .before .before .before .before .before .before .before .thread-at .ensures, ← c .before .before .before .before .is-paused .ensures, c .before .before .before .if2 .left, ← c .before .before .is-ready .ensures, c .before .if3 .left) (c .carried3 .ensures)
 
 pub thread-suspend-spec : {M : Type 1} → statement M
+unfolding threadSuspend
 thread-suspend-spec =
     tie.close
     (tie.spec
     (λ c κs. search needs) (λ c κs. search needs) (λ c κs. search needs)
-    returns
+    (λ c. refused-by _ _ (c .refused .ensures) (reason (c .before .before)) (c .before .if1 .taken))
     (λ c κs. search needs) (λ c κs. search needs) (λ c κs. search needs) (λ c κs. search needs)
     returns-2
     (λ c κs. search needs) (λ c κs. search needs) (λ c κs. search needs) (λ c κs. search needs)

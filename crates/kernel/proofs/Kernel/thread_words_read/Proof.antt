@@ -1,34 +1,31 @@
 use mathlib.Core.Path.{_≡_, sym, ap, _∙_}
 use borrow.Author.Needs.{needs}
-use Rattle.scheduler.specs.declared.thread.Thread.{Thread}
 use Rattle.calls.specs.Refusals.{readRefusal}
 use Rattle.kernel.specs.Tables.{threadOf, heldAt, withScheduler, withHeld, withSemaphore, withClock, given}
-use Rattle.kernel.specs.Answers.{answerOf, refused, carried, answered}
+use Rattle.kernel.specs.Answers.{answerOf, carried, answered}
 use Rattle.kernel.specs.Threads.{threadWordsRead}
-use Rattle.kernel.proofs.Laws.Answers.{is-refused, is-carried}
+use Rattle.kernel.proofs.Laws.Answers.{is-carried}
+use Rattle.kernel.proofs.Laws.Arms.{refused-by}
 use Rattle.kernel.proofs.Kernel.thread_words_read.Statement.{statement}
 use Rattle.kernel.proofs.Kernel.thread_words_read.Tie as tie
 
-returns : tie.Need-returns
-unfolding threadWordsRead
-returns c =
-    let a = c .before .before .before .before .before .args in
-    let e = c .before .before .read .ensures ∙ ap (λ (x : Thread). readRefusal x) (c .before .before .before .thread-at .ensures) in
-    c .refused .ensures ∙ ap answerOf (ap (refused (a .self)) e ∙ sym (is-refused (a .self) (readRefusal (threadOf (a .self) (a .t .0))) _ (λ w. c .before .if1 .taken (e ∙ w))))
+-- the reason that is found is that of the definition
+module _ (k : tie.After-read) where
+  reason : let a = k .before .before .before .args in k .read .result ≡ readRefusal (threadOf (a .self) (a .t .0))
+  reason = k .read .ensures ∙ ap readRefusal (k .before .thread-at .ensures)
 
 returns-2 : tie.Need-returns-2
 unfolding threadWordsRead answerOf carried answered given withHeld withScheduler withSemaphore withClock heldAt
 returns-2 c =
-    let a = c .before .before .before .before .before .before .before .before .args in
-    let e = c .before .before .before .before .before .read .ensures ∙ ap (λ (x : Thread). readRefusal x) (c .before .before .before .before .before .before .thread-at .ensures) in
-    let z : readRefusal (threadOf (a .self) (a .t .0)) ≡ 0 = sym e ∙ c .before .before .before .before .if1 .left in
+    let z = sym (reason (c .before .before .before .before .before)) ∙ c .before .before .before .before .if1 .left in
     rw is-carried (c .carried .ensures ∙ rw (c .before .before .held-in .ensures))
 
 pub thread-words-read-spec : {M : Type 1} → statement M
+unfolding threadWordsRead
 thread-words-read-spec =
     tie.close
     (tie.spec
     (λ c κs. search needs) (λ c κs. search needs) (λ c κs. search needs)
-    returns
+    (λ c. refused-by _ _ (c .refused .ensures) (reason (c .before .before)) (c .before .if1 .taken))
     (λ c κs. search needs) (λ c κs. search needs)
     returns-2)

@@ -7,7 +7,7 @@ use Rattle.lines.specs.Logic.{oneIf}
 use Rattle.lines.proofs.Laws.Lists.{getD-any}
 use Rattle.scheduler.specs.declared.thread.Thread.{Thread}
 use Rattle.scheduler.specs.Threads.{noThread}
-use Rattle.scheduler.specs.Orders.{threadAt, withThread, woken}
+use Rattle.scheduler.specs.Orders.{threadAt, withThread}
 use Rattle.calls.specs.Held.{noWords, noHeld}
 use Rattle.calls.specs.Refusals.{tickRefusal}
 use Rattle.kernel.specs.declared.Kernel.{Kernel}
