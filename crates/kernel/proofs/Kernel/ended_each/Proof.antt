@@ -1,6 +1,7 @@
 use mathlib.Core.Path.{_≡_, refl, sym, ap, _∙_}
 use mathlib.Core.Bool.{false}
-use Prim.Native.Nat.{ℕ, _<_, _≤_, _-_}
+use mathlib.Core.List.{List}
+use Prim.Native.Nat.{_+_, ℕ, _≤_, _-_}
 use native.Mathlib.Omega.{arith}
 use borrow.Author.Needs.{needs}
 use lib.ListN.{length, take, getD}
@@ -21,7 +22,9 @@ use Rattle.kernel.proofs.Kernel.ended_each.Statement.{statement}
 use Rattle.kernel.proofs.Kernel.ended_each.Tie as tie
 
 abbrev Inv-loop : tie.InvT-loop
-Inv-loop status self₀ ids n h s₀ i₀ self s i = (i ≤ n) × (n ≤ 32) × (length ids ≡ 32) × (length (self .held) ≡ 32) × (withScheduler self s ≡ endEach (withScheduler self₀ s₀) status (h .words) (take i ids))
+Inv-loop status self₀ ids n h s₀ i₀ self s i =
+    (i ≤ n) × (n ≤ 32) × (length ids ≡ 32) × (length (self .held) ≡ 32)
+    × (withScheduler self s ≡ endEach (withScheduler self₀ s₀) status (h .words) (take i ids))
 
 abbrev μ-loop : tie.MeasureT-loop
 μ-loop status self₀ ids n h s₀ i₀ self s i = n - i
@@ -35,26 +38,47 @@ loop-holds c =
     let w = length-members (a .line) o in
     (omega arith, omega (arith, z, w), o, search length-mapped, refl)
 
+-- ---- one wait more is ended
+module _ (k : tie.In-loop Inv-loop μ-loop) where
+  abbrev at : tie.At-loop Inv-loop μ-loop
+  at = k .before
+
+  abbrev start : tie.Start Inv-loop μ-loop
+  start = at .before .before .before .before .before
+
+  -- the thread, and what it then holds
+  abbrev x : ℕ
+  x = getD (start .args .line .ids) (at .loop .i) 0
+
+  abbrev words : List ℕ
+  words = at .before .before .of .result .words
+
+  step : let a = start .args in let l = at .loop in
+      withHeld (withScheduler (l .self) (woken (l .s) x)) x (holding (a .status) words) ≡ endEach (a .t1) (a .status) words (take (l .i + 1) (a .line .ids))
+  unfolding withScheduler
+  step = let a = start .args in let l = at .loop in each-step (a .t1) (l .self) (l .s) (a .status) words (a .line .ids) (l .i) (omega arith) (l .inv .4)
+
 loop-again : tie.Need-loop-again Inv-loop μ-loop
 unfolding withScheduler withHeld holding
 loop-again c =
-    let a = c .before .before .before .before .before .before .before .before .args in
-    let l = c .before .before .before .loop in
-    let x = getD (a .line .ids) (l .i) 0 in
-    let h : l .i < length (a .line .ids) = omega arith in
-    let v = c .before .before .before .before .before .of .result in
-    let g : v ≡ holding (a .status) (v .words) = c .before .before .before .before .before .of .ensures ∙ sym (ap (λ (y : Held). holding (a .status) (y .words)) (c .before .before .before .before .before .of .ensures)) in
-    (omega arith, omega arith, l .inv .2, simp length-set (l .inv .3), rw (c .before .woken .ensures) ((λ j. withHeld (withScheduler (l .self) (woken (l .s) x)) x (g j)) ∙ each-step (a .t1) (l .self) (l .s) (a .status) (v .words) (a .line .ids) (l .i) h (l .inv .4)))
+    let k = c .before .before in
+    let l = at k .loop in
+    let e = at k .before .before .of .ensures in
+    let g = e ∙ sym (ap (λ (y : Held). holding (start k .args .status) (y .words)) e) in (
+      omega arith,
+      omega arith,
+      l .inv .2,
+      simp length-set (l .inv .3),
+      rw (c .before .woken .ensures) ((λ j. withHeld (withScheduler (l .self) (woken (l .s) (x k))) (x k) (g j)) ∙ step k),
+    )
 
 loop-again-2 : tie.Need-loop-again-2 Inv-loop μ-loop
 unfolding withScheduler withHeld
 loop-again-2 c =
-    let a = c .before .before .before .before .before .before .before .before .args in
-    let l = c .before .before .before .loop in
-    let x = getD (a .line .ids) (l .i) 0 in
-    let h : l .i < length (a .line .ids) = omega arith in
-    let v = c .before .before .before .before .before .of .result in
-    (omega arith, omega arith, l .inv .2, l .inv .3, rw (c .before .woken .ensures) (sym (held-out (withScheduler (l .self) (woken (l .s) x)) x (holding (a .status) (v .words)) (l .inv .3) (c .if1 .left)) ∙ each-step (a .t1) (l .self) (l .s) (a .status) (v .words) (a .line .ids) (l .i) h (l .inv .4)))
+    let k = c .before .before in
+    let l = at k .loop in
+    let o = held-out (withScheduler (l .self) (woken (l .s) (x k))) (x k) (holding (start k .args .status) (words k)) (l .inv .3) (c .if1 .left) in
+    (omega arith, omega arith, l .inv .2, l .inv .3, rw (c .before .woken .ensures) (sym o ∙ step k))
 
 returns : tie.Need-returns Inv-loop μ-loop
 unfolding answerOf carried answered withScheduler holding
@@ -62,7 +86,10 @@ returns c =
     let a = c .before .before .before .before .before .before .before .args in
     let l = c .before .before .loop in
     let n : l .i ≡ length (members (a .line)) = omega (arith, c .before .before .before .before .before .size .ensures) in
-    let e : withScheduler (l .self) (l .s) ≡ endEach (a .t1) (a .status) (a .words) (members (a .line)) = l .inv .4 ∙ (λ j. endEach (a .t1) (a .status) (c .before .before .before .before .of .ensures j .words) (take (l .i) (a .line .ids))) ∙ ap (endEach (a .t1) (a .status) (a .words)) (ap (λ (j : ℕ). take j (a .line .ids)) n ∙ members-take (a .line)) in
+    let e : withScheduler (l .self) (l .s) ≡ endEach (a .t1) (a .status) (a .words) (members (a .line)) =
+    l .inv .4
+    ∙ (λ j. endEach (a .t1) (a .status) (c .before .before .before .before .of .ensures j .words) (take (l .i) (a .line .ids)))
+    ∙ ap (endEach (a .t1) (a .status) (a .words)) (ap (λ (j : ℕ). take j (a .line .ids)) n ∙ members-take (a .line)) in
     c .carried .ensures ∙ (λ j. record { status = 0; words = noWords; next = rescheduled (e j .scheduler) false .running; ended = c .before .before .before .before .before .size .ensures j; kernel = withScheduler (e j) (rescheduled (e j .scheduler) false) })
 
 pub ended-each-spec : {M : Type 1} → statement M

@@ -29,16 +29,25 @@ use Rattle.kernel.proofs.Kernel.set_or.Statement.{statement}
 use Rattle.kernel.proofs.Kernel.set_or.Tie as tie
 
 abbrev Inv-loop : tie.InvT-loop
-Inv-loop n flags self requests₀ options₀ t₀ requests options t = (t ≤ 32) × (length requests ≡ 32) × (length options ≡ 32) × ((j : ℕ) → j < t → getD requests j 0 ≡ heldAt self j .request) × ((j : ℕ) → j < t → getD options j 0 ≡ heldAt self j .option)
+Inv-loop n flags self requests₀ options₀ t₀ requests options t =
+    (t ≤ 32) × (length requests ≡ 32) × (length options ≡ 32)
+    × ((j : ℕ) → j < t → getD requests j 0 ≡ heldAt self j .request)
+    × ((j : ℕ) → j < t → getD options j 0 ≡ heldAt self j .option)
 
 abbrev μ-loop : tie.MeasureT-loop
 μ-loop n flags self requests₀ options₀ t₀ requests options t = 32 - t
 
 abbrev Inv-loop2 : tie.InvT-loop2
-Inv-loop2 flags self₀ t s₀ ids ended h i₀ self s i = (i ≤ ended) × (ended ≤ 32) × (length ids ≡ 32) × (length (self .held) ≡ 32) × (withScheduler self s ≡ endEach (withScheduler self₀ s₀) 0 (h .words) (take i ids))
+Inv-loop2 flags self₀ t s₀ ids ended h i₀ self s i =
+    (i ≤ ended) × (ended ≤ 32) × (length ids ≡ 32) × (length (self .held) ≡ 32)
+    × (withScheduler self s ≡ endEach (withScheduler self₀ s₀) 0 (h .words) (take i ids))
 
 abbrev μ-loop2 : tie.MeasureT-loop2
 μ-loop2 flags self₀ t s₀ ids ended h i₀ self s i = ended - i
+
+module _ (x : tie.Start Inv-loop μ-loop Inv-loop2 μ-loop2) where
+  held-sized : length (x .args .t1 .held) ≡ 32
+  held-sized = search length-mapped
 
 loop-holds : tie.Need-loop-holds Inv-loop μ-loop Inv-loop2 μ-loop2
 loop-holds c = (omega arith, refl, refl, (λ j l. absurd (not-suc-le-zero l)), (λ j l. absurd (not-suc-le-zero l)))
@@ -48,7 +57,7 @@ unfolding heldAt
 loop-again c =
     let a = c .before .before .before .args in
     let l = c .before .before .loop in
-    let s : length (a .t1 .held) ≡ 32 = length-mapped _ (a .t1 .held) 32 (c .before .before .before .good .0 .1 .1 .1 .0 .1 .0 .1) in
+    let s = held-sized (c .before .before .before) in
     let h = getD-any (a .t1 .held) (l .t) _ noHeld (omega (arith, s, c .before .loop-test .taken)) in (
       omega arith,
       simp length-set (l .inv .1),
@@ -60,11 +69,12 @@ loop-again c =
 loop2-holds : tie.Need-loop2-holds Inv-loop μ-loop Inv-loop2 μ-loop2
 unfolding endEach withScheduler lineOf
 loop2-holds c =
-    let a = c .before .before .before .before .before .before .before .before .before .before .before .before .before .before .before .args in
+    let by = c .before .before .before .before .before .before .before .before .before .woken in
     let z = c .before .before .size .ensures in
-    let o : length (c .before .before .before .before .before .before .before .before .before .woken .result .line .ids) ≡ 32 = ap (λ (y : Line). length (y .ids)) (c .before .before .before .before .before .before .before .before .before .woken .ensures .0) ∙ length-pad 32 _ in
-    let w = length-members (c .before .before .before .before .before .before .before .before .before .woken .result .line) o in
-    (omega arith, omega (arith, z, w), o, length-mapped _ (a .t1 .held) 32 (c .before .before .before .before .before .before .before .before .before .before .before .before .before .before .before .good .0 .1 .1 .1 .0 .1 .0 .1), refl)
+    let o : length (by .result .line .ids) ≡ 32 =
+    ap (λ (y : Line). length (y .ids)) (by .ensures .0) ∙ length-pad 32 _ in
+    let w = length-members (by .result .line) o in
+    (omega arith, omega (arith, z, w), o, held-sized (c .before .before .before .before .before .before .before .before .before .before .before .before .before .before .before), refl)
 
 cast-u : tie.Need-cast-u Inv-loop μ-loop Inv-loop2 μ-loop2
 cast-u c = search (needs, c .before .before .before .before .before .before .before .before .before .before .before .woken .ok .1 .1 .0 .1 .1 .0 .1 .1)
@@ -77,8 +87,13 @@ loop2-again c =
     let x = getD ids (l .i) 0 in
     let h : l .i < length ids = omega (arith, l .inv .0, l .inv .1, l .inv .2, c .before .before .loop2-test .taken) in
     let v = c .before .before .before .before .of2 .result in
-    let g : v ≡ holding 0 (v .words) = c .before .before .before .before .of2 .ensures ∙ sym (ap (λ (y : Held). holding 0 (y .words)) (c .before .before .before .before .of2 .ensures)) in
-    (omega arith, omega arith, l .inv .2, simp length-set (l .inv .3), rw (c .before .woken2 .ensures) ((λ j. withHeld (withScheduler (l .self) (woken (l .s) x)) x (g j)) ∙ each-step _ (l .self) (l .s) 0 (v .words) ids (l .i) h (l .inv .4)))
+    let g : v ≡ holding 0 (v .words) = c .before .before .before .before .of2 .ensures ∙ sym (ap (λ (y : Held). holding 0 (y .words)) (c .before .before .before .before .of2 .ensures)) in (
+      omega arith,
+      omega arith,
+      l .inv .2,
+      simp length-set (l .inv .3),
+      rw (c .before .woken2 .ensures) ((λ j. withHeld (withScheduler (l .self) (woken (l .s) x)) x (g j)) ∙ each-step _ (l .self) (l .s) 0 (v .words) ids (l .i) h (l .inv .4)),
+    )
 
 loop2-again-2 : tie.Need-loop2-again-2 Inv-loop μ-loop Inv-loop2 μ-loop2
 unfolding withScheduler withHeld
@@ -87,32 +102,51 @@ loop2-again-2 c =
     let ids = c .before .before .before .before .before .before .before .before .before .before .before .before .before .woken .result .line .ids in
     let x = getD ids (l .i) 0 in
     let h : l .i < length ids = omega (arith, l .inv .0, l .inv .1, l .inv .2, c .before .before .loop2-test .taken) in
-    let v = c .before .before .before .before .of2 .result in
-    (omega arith, omega arith, l .inv .2, l .inv .3, rw (c .before .woken2 .ensures) (sym (held-out (withScheduler (l .self) (woken (l .s) x)) x (holding 0 (v .words)) (l .inv .3) (c .if1 .left)) ∙ each-step _ (l .self) (l .s) 0 (v .words) ids (l .i) h (l .inv .4)))
+    let v = c .before .before .before .before .of2 .result in (
+      omega arith,
+      omega arith,
+      l .inv .2,
+      l .inv .3,
+      rw (c .before .woken2 .ensures) (sym (held-out (withScheduler (l .self) (woken (l .s) x)) x (holding 0 (v .words)) (l .inv .3) (c .if1 .left)) ∙ each-step _ (l .self) (l .s) 0 (v .words) ids (l .i) h (l .inv .4)),
+    )
 
 returns : tie.Need-returns Inv-loop μ-loop Inv-loop2 μ-loop2
 unfolding setOr holding withGroup lineOf answerOf carried answered withScheduler
 returns c =
-    let a = c .before .before .before .before .before .before .before .before .before .before .before .before .before .before .before .before .before .before .args in
+    let by = c .before .before .before .before .before .before .before .before .before .before .before .before .woken in
+    let found = c .before .before .before .before .before .before .before .before .before .before .before .before .before .line-at in
+    let size = c .before .before .before .before .before .size in
+    let two = c .before .before .before .before .two-words in
+    let store = c .before .before .before .before .before .before .before .before .groups-with in
+    let start = c .before .before .before .before .before .before .before .before .before .before .before .before .before .before .before .before .before .before in
+    let a = start .args in
     let l = c .before .before .before .before .before .before .before .before .before .before .before .before .before .before .before .before .before .loop in
-    let s : length (a .t1 .held) ≡ 32 = length-mapped _ (a .t1 .held) 32 (c .before .before .before .before .before .before .before .before .before .before .before .before .before .before .before .before .before .before .good .0 .1 .1 .1 .0 .1 .0 .1) in
+    let s = held-sized start in
     let e : l .t ≡ 32 = omega (arith, l .inv .0, c .before .before .before .before .before .before .before .before .before .before .before .before .before .before .before .before .loop-test .left) in
     let rs = table-all (a .t1) (λ y. y .request) (l .requests) refl (l .inv .1) s (λ j m. l .inv .3 j (omega (arith, m, e))) in
     let os = table-all (a .t1) (λ y. y .option) (l .options) refl (l .inv .2) s (λ j m. l .inv .4 j (omega (arith, m, e))) in
     let line = lineAt (a .t1 .scheduler) (groupPlace (a .n .0)) in
-    let m : members (c .before .before .before .before .before .before .before .before .before .before .before .before .before .line-at .result) ≡ line = c .before .before .before .before .before .before .before .before .before .before .before .before .before .line-at .ensures .1 ∙ ap (lineAt (a .t1 .scheduler)) (c .before .before .before .before .before .before .before .before .before .before .before .before .before .before .place .ensures) in
-    let most : length line ≤ 32 = let o = length-members (c .before .before .before .before .before .before .before .before .before .before .before .before .before .line-at .result) (ap (λ (y : Line). length (y .ids)) (c .before .before .before .before .before .before .before .before .before .before .before .before .before .line-at .ensures .0) ∙ length-pad 32 _) in let q = ap (λ (xs : List ℕ). length xs) m in omega (arith, o, q) in
-    let w : members (c .before .before .before .before .before .before .before .before .before .before .before .before .woken .result .line) ≡ wokenBy (a .t1) (a .n .0) (a .flags) = ap members (c .before .before .before .before .before .before .before .before .before .before .before .before .woken .ensures .0 ∙ ap (λ (xs : List ℕ). lineOf (wokenOf (a .flags) (l .requests) (l .options) xs)) m) ∙ woken-members (a .t1) (a .n .0) (a .flags) (l .requests) (l .options) rs os most in
-    let x : c .before .before .before .before .before .before .before .before .before .before .before .before .woken .result .clears ≡ clearsBy (a .t1) (a .n .0) (a .flags) = c .before .before .before .before .before .before .before .before .before .before .before .before .woken .ensures .1 ∙ ap (clearsOf (a .flags) (l .requests) (l .options)) m ∙ clears-by (a .t1) (a .n .0) (a .flags) (l .requests) (l .options) rs os in
+    let m : members (found .result) ≡ line =
+    found .ensures .1 ∙ ap (lineAt (a .t1 .scheduler)) (c .before .before .before .before .before .before .before .before .before .before .before .before .before .before .place .ensures) in
+    let o = length-members (found .result) (ap (λ (y : Line). length (y .ids)) (found .ensures .0) ∙ length-pad 32 _) in
+    let q = ap (λ (xs : List ℕ). length xs) m in
+    let most : length line ≤ 32 = omega (arith, o, q) in
+    let v = by .ensures .0 ∙ ap (λ (xs : List ℕ). lineOf (wokenOf (a .flags) (l .requests) (l .options) xs)) m in
+    let w : members (by .result .line) ≡ wokenBy (a .t1) (a .n .0) (a .flags) =
+    ap members v ∙ woken-members (a .t1) (a .n .0) (a .flags) (l .requests) (l .options) rs os most in
+    let x : by .result .clears ≡ clearsBy (a .t1) (a .n .0) (a .flags) =
+    by .ensures .1 ∙ ap (clearsOf (a .flags) (l .requests) (l .options)) m ∙ clears-by (a .t1) (a .n .0) (a .flags) (l .requests) (l .options) rs os in
     let g = groupWith (lessFlags (a .flags) (clearsBy (a .t1) (a .n .0) (a .flags))) in
     let u = wokenBy (a .t1) (a .n .0) (a .flags) in
     let p = c .before .before .loop2 in
-    let ids = c .before .before .before .before .before .before .before .before .before .before .before .before .woken .result .line .ids in
-    let n : p .i ≡ length (members (c .before .before .before .before .before .before .before .before .before .before .before .before .woken .result .line)) = omega (arith, p .inv .0, c .before .before .before .before .before .size .ensures, c .before .loop2-test .left) in
-    let k : Kernel = record { scheduler = a .t1 .scheduler; held = a .t1 .held; semaphores = a .t1 .semaphores; queues = a .t1 .queues; groups = c .before .before .before .before .before .before .before .before .groups-with .result; pools = a .t1 .pools; clock = a .t1 .clock } in
-    let each : withScheduler (p .self) (p .s) ≡ endEach k 0 (c .before .before .before .before .two-words .result) (members (c .before .before .before .before .before .before .before .before .before .before .before .before .woken .result .line)) = p .inv .4 ∙ (λ j. endEach k 0 (c .before .before .before .of2 .ensures j .words) (take (p .i) ids)) ∙ ap (endEach k 0 (c .before .before .before .before .two-words .result)) (ap (λ (j : ℕ). take j ids) n ∙ members-take (c .before .before .before .before .before .before .before .before .before .before .before .before .woken .result .line)) in
-    let done : c .carried .result ≡ answerOf (carried (endEach k 0 (c .before .before .before .before .two-words .result) (members (c .before .before .before .before .before .before .before .before .before .before .before .before .woken .result .line))) 0 noWords (members (c .before .before .before .before .before .before .before .before .before .before .before .before .woken .result .line))) = c .carried .ensures ∙ (λ j. record { status = 0; words = noWords; next = rescheduled (each j .scheduler) false .running; ended = c .before .before .before .before .before .size .ensures j; kernel = withScheduler (each j) (rescheduled (each j .scheduler) false) }) in
-    done ∙ rw (w, c .before .before .before .before .before .before .before .before .groups-with .ensures, c .before .before .before .before .before .before .before .before .before .of .ensures, c .before .before .before .before .before .before .before .before .before .before .less .ensures, x, c .before .before .before .before .two-words .ensures) (ap (λ (y : Kernel). answerOf (carried y 0 noWords u)) (each-group (a .t1) (a .n .0) g 0 (oneWord (a .flags)) u))
+    let ids = by .result .line .ids in
+    let n : p .i ≡ length (members (by .result .line)) = omega (arith, p .inv .0, size .ensures, c .before .loop2-test .left) in
+    let k : Kernel = record { scheduler = a .t1 .scheduler; held = a .t1 .held; semaphores = a .t1 .semaphores; queues = a .t1 .queues; groups = store .result; pools = a .t1 .pools; clock = a .t1 .clock } in
+    let each : withScheduler (p .self) (p .s) ≡ endEach k 0 (two .result) (members (by .result .line)) =
+    p .inv .4 ∙ (λ j. endEach k 0 (c .before .before .before .of2 .ensures j .words) (take (p .i) ids)) ∙ ap (endEach k 0 (two .result)) (ap (λ (j : ℕ). take j ids) n ∙ members-take (by .result .line)) in
+    let done : c .carried .result ≡ answerOf (carried (endEach k 0 (two .result) (members (by .result .line))) 0 noWords (members (by .result .line))) =
+    c .carried .ensures ∙ (λ j. record { status = 0; words = noWords; next = rescheduled (each j .scheduler) false .running; ended = size .ensures j; kernel = withScheduler (each j) (rescheduled (each j .scheduler) false) }) in
+    done ∙ rw (w, store .ensures, c .before .before .before .before .before .before .before .before .before .of .ensures, c .before .before .before .before .before .before .before .before .before .before .less .ensures, x, two .ensures) (ap (λ (y : Kernel). answerOf (carried y 0 noWords u)) (each-group (a .t1) (a .n .0) g 0 (oneWord (a .flags)) u))
 
 pub set-or-spec : {M : Type 1} → statement M
 set-or-spec =
