@@ -17,6 +17,11 @@ use Rattle.kernel.proofs.Laws.Arms.{refused-by}
 use Rattle.kernel.proofs.Kernel.block_allocate.Statement.{statement}
 use Rattle.kernel.proofs.Kernel.block_allocate.Tie as tie
 
+-- the size of a table
+module _ (x : tie.Start) where
+  held-sized : length (x .args .t1 .held) ≡ 32
+  held-sized = search length-mapped
+
 -- the reason that is found is that of the definition
 module _ (k : tie.After-allocate) where
   reason : let a = k .before .before .before .args in k .allocate .result ≡ allocateRefusal (poolAt (a .t1) (a .n .0)) (a .wait) (a .caller)
@@ -30,7 +35,7 @@ returns-2 c =
     let i = c .before .before .before .before .before .before .pool-in .ensures in
     let z = sym (reason (c .before .before .before .before .before)) ∙ c .before .before .before .before .if1 .left in
     let t : c .before .before .has-free .result ≡ ltb 0 (poolAt (a .t1) (a .n .0) .free) = c .before .before .has-free .ensures ∙ ap (λ (x : Pool). ltb 0 (x .free)) i in
-    let l : length (a .t1 .held) ≡ 32 = length-mapped _ (a .t1 .held) 32 (c .before .before .before .before .before .before .before .before .good .0 .1 .1 .1 .0 .1 .0 .1) in
+    let l = held-sized (c .before .before .before .before .before .before .before .before) in
     let m : answered (c .before .if2 .self) (c .before .if2 .s) (c .before .if2 .status) (c .before .if2 .words) 0 ≡ answerOf (blockAllocate (a .t1) (a .caller) (a .n .0) (a .wait)) =
     ⊎-elim
     (λ w. rw (w .5, w .6, w .7, w .8, is-carried, ← t, w .0 .taken, w .4 .ensures, w .2 .ensures, w .1 .ensures ∙ ap nextBlock i, w .3 .ensures ∙ ap withoutNext i))

@@ -19,6 +19,11 @@ use Rattle.kernel.proofs.Laws.Arms.{refused-by}
 use Rattle.kernel.proofs.Kernel.event_flags_get.Statement.{statement}
 use Rattle.kernel.proofs.Kernel.event_flags_get.Tie as tie
 
+-- the size of a table
+module _ (x : tie.Start) where
+  held-sized : length (x .args .t1 .held) ≡ 32
+  held-sized = search length-mapped
+
 -- the reason that is found is that of the definition
 module _ (k : tie.After-flags-get) where
   reason : let a = k .before .before .before .args in k .flags-get .result ≡ getRefusal (groupAt (a .t1) (a .n .0)) (a .request) (a .option) (a .wait) (a .caller)
@@ -34,7 +39,7 @@ returns-2 c =
     let known = leb-true (a .option) 3 (unless-none (leb (a .option) 3) 8 (omega arith) (first-none _ _ (second-none _ _ z))) in
     let o : c .before .before .before .before .option-of .result ≡ a .option = let h = c .before .before .before .before .option-of .ensures in omega (arith, h, known) in
     let t : c .before .before .is-met .result ≡ metb (groupAt (a .t1) (a .n .0) .flags) (a .request) (a .option) = c .before .before .is-met .ensures ∙ (λ j. metb (i j .flags) (a .request) (o j)) in
-    let l : length (a .t1 .held) ≡ 32 = length-mapped _ (a .t1 .held) 32 (c .before .before .before .before .before .before .before .before .before .good .0 .1 .1 .1 .0 .1 .0 .1) in
+    let l = held-sized (c .before .before .before .before .before .before .before .before .before) in
     let m : answered (c .before .if2 .self) (c .before .if2 .s) (c .before .if2 .status) (c .before .if2 .words) 0 ≡ answerOf (groupGet (a .t1) (a .caller) (a .n .0) (a .request) (a .option) (a .wait)) =
     ⊎-elim
     (λ w. rw (w .6, w .7, w .8, w .9, is-carried, ← t, w .0 .taken, w .5 .ensures, w .4 .ensures, w .3 .ensures, w .2 .ensures, w .1 .ensures, o, i))

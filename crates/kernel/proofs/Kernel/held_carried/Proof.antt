@@ -15,7 +15,7 @@ returns : tie.Need-returns
 unfolding withHeld
 returns c =
     let a = c .before .before .before .args in
-    let l : length (a .t1 .held) ≡ 32 = length-mapped _ (a .t1 .held) 32 (c .before .before .before .good .0 .1 .1 .1 .0 .1 .0 .1) in
+    let l : length (a .t1 .held) ≡ 32 = search length-mapped in
     let m : c .before .if1 .self ≡ withHeld (a .t1) (a .t .0) (a .h) = ⊎-elim (λ w. w .1) (λ w. w .1 ∙ sym (held-out (a .t1) (a .t .0) (a .h) l (w .0 .left))) (c .before .if1 .came) in
     c .carried .ensures ∙ ap (λ (k : Kernel). answered k (a .s) (a .status) noWords (a .ended)) m
 

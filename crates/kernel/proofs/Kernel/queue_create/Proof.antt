@@ -16,6 +16,11 @@ use Rattle.kernel.proofs.Laws.Arms.{refused-by}
 use Rattle.kernel.proofs.Kernel.queue_create.Statement.{statement}
 use Rattle.kernel.proofs.Kernel.queue_create.Tie as tie
 
+-- the size of a table
+module _ (x : tie.Start) where
+  queues-sized : length (x .args .t1 .queues) ≡ 8
+  queues-sized = search length-mapped
+
 -- the reason that is found is that of the definition
 module _ (k : tie.After-queue-create) where
   reason : let a = k .before .before .before .args in k .queue-create .result ≡ queueCreateRefusal (a .n .0) (queueAt (a .t1) (a .n .0)) (a .words) (a .storage) (a .caller)
@@ -29,7 +34,7 @@ returns-2 c =
     let z = sym (reason (c .before .before .before .before .before .before)) ∙ c .before .before .before .before .before .if1 .left in
     let f = unless-none (sizesFitb (a .words) (a .storage)) 5 (omega arith) (first-none _ _ (second-none _ _ z)) in
     let x : c .before .before .before .of .result ≡ emptyQueue (a .words) (a .storage) = c .before .before .before .of .ensures ∙ (λ j. emptyQueue (words-byte (a .words) (a .storage) f j) (storage-byte (a .words) (a .storage) f j)) in
-    let l : length (a .t1 .queues) ≡ 8 = length-mapped _ (a .t1 .queues) 8 (c .before .before .before .before .before .before .before .before .before .good .0 .1 .1 .1 .1 .1 .0 .1 .0 .1) in
+    let l = queues-sized (c .before .before .before .before .before .before .before .before .before) in
     let m : c .before .if2 .self ≡ withQueue (a .t1) (a .n .0) (c .before .before .before .of .result) = ⊎-elim (λ w. w .1) (λ w. w .1 ∙ sym (queue-out (a .t1) (a .n .0) (c .before .before .before .of .result) l (w .0 .left))) (c .before .if2 .came) in
     rw is-carried (c .carried .ensures ∙ rw (m, x))
 

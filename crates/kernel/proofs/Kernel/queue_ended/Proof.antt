@@ -16,11 +16,16 @@ use Rattle.kernel.proofs.Laws.Answers.{queue-out}
 use Rattle.kernel.proofs.Kernel.queue_ended.Statement.{statement}
 use Rattle.kernel.proofs.Kernel.queue_ended.Tie as tie
 
+-- the size of a table
+module _ (x : tie.Start) where
+  queues-sized : length (x .args .t1 .queues) ≡ 8
+  queues-sized = search length-mapped
+
 returns : tie.Need-returns
 unfolding endQueue withQueue
 returns c =
     let a = c .before .before .before .before .before .before .args in
-    let l : length (a .t1 .queues) ≡ 8 = length-mapped _ (a .t1 .queues) 8 (c .before .before .before .before .before .before .good .0 .1 .1 .1 .1 .1 .0 .1 .0 .1) in
+    let l = queues-sized (c .before .before .before .before .before .before) in
     let m : c .before .if1 .self ≡ withQueue (a .t1) (a .n .0) (a .q) = ⊎-elim (λ w. w .1) (λ w. w .1 ∙ sym (queue-out (a .t1) (a .n .0) (a .q) l (w .0 .left))) (c .before .if1 .came) in
     let line = lineAt (a .t1 .scheduler) (queuePlace (a .n .0)) in
     let p : members (c .before .before .before .line-at .result) ≡ line = c .before .before .before .line-at .ensures .1 ∙ ap (lineAt (a .t1 .scheduler)) (c .before .before .before .before .place .ensures) in

@@ -48,6 +48,14 @@ unfolding receiveFrom answerOf carried answered withScheduler withQueue
 from-store k y n wait q left s words ended t f e o a b c d w =
     (λ j. answered (withQueue (a j) n (b j)) (c j) success (d j) (w j)) ∙ rw (e, ← f, le-ltb t 32 o)
 
+-- the sizes of tables
+module _ (x : tie.Start) where
+  held-sized : length (x .args .t1 .held) ≡ 32
+  held-sized = search length-mapped
+
+  queues-sized : length (x .args .t1 .queues) ≡ 8
+  queues-sized = search length-mapped
+
 -- the reason that is found is that of the definition
 module _ (k : tie.After-receive) where
   reason : let a = k .before .before .before .args in k .receive .result ≡ receiveRefusal (queueAt (a .t1) (a .n .0)) (a .wait) (a .caller)
@@ -61,8 +69,8 @@ returns-2 c =
     let q = c .before .before .before .before .before .before .queue-in .result in
     let i = c .before .before .before .before .before .before .queue-in .ensures in
     let z = sym (reason (c .before .before .before .before .before)) ∙ c .before .before .before .before .if1 .left in
-    let l : length (a .t1 .held) ≡ 32 = length-mapped _ (a .t1 .held) 32 (c .before .before .before .before .before .before .before .before .good .0 .1 .1 .1 .0 .1 .0 .1) in
-    let u : length (a .t1 .queues) ≡ 8 = length-mapped _ (a .t1 .queues) 8 (c .before .before .before .before .before .before .before .before .good .0 .1 .1 .1 .1 .1 .0 .1 .0 .1) in
+    let l = held-sized (c .before .before .before .before .before .before .before .before) in
+    let u = queues-sized (c .before .before .before .before .before .before .before .before) in
     let m : answered (c .before .if2 .self) (c .before .if2 .s) (c .before .if2 .status) (c .before .if2 .words) (c .before .if2 .ended) ≡ answerOf (receiveFrom (a .t1) (a .n .0) q (a .wait)) =
     ⊎-elim
     (λ w. rw (w .6, w .7, w .8, w .9, w .10, ← c .before .before .is-empty .ensures, w .0 .taken, w .3 .ensures, w .5 .ensures))

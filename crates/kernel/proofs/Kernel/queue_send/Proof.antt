@@ -18,6 +18,14 @@ use Rattle.kernel.proofs.Laws.Arms.{refused-by}
 use Rattle.kernel.proofs.Kernel.queue_send.Statement.{statement}
 use Rattle.kernel.proofs.Kernel.queue_send.Tie as tie
 
+-- the sizes of tables
+module _ (x : tie.Start) where
+  held-sized : length (x .args .t1 .held) ≡ 32
+  held-sized = search length-mapped
+
+  queues-sized : length (x .args .t1 .queues) ≡ 8
+  queues-sized = search length-mapped
+
 -- the reason that is found is that of the definition
 module _ (k : tie.After-send) where
   reason : let a = k .before .before .before .before .args in k .send .result ≡ sendRefusal (queueAt (a .t1) (a .n .0)) (a .index) (length (a .messages .now)) (a .wait) (a .caller)
@@ -31,8 +39,8 @@ returns-2 c =
     let q = c .before .before .before .before .before .before .before .queue-in .result in
     let i = c .before .before .before .before .before .before .before .queue-in .ensures in
     let z = sym (reason (c .before .before .before .before .before .before)) ∙ c .before .before .before .before .before .if1 .left in
-    let l : length (a .t1 .held) ≡ 32 = length-mapped _ (a .t1 .held) 32 (c .before .before .before .before .before .before .before .before .before .before .good .0 .1 .1 .1 .0 .1 .0 .1) in
-    let u : length (a .t1 .queues) ≡ 8 = length-mapped _ (a .t1 .queues) 8 (c .before .before .before .before .before .before .before .before .before .before .good .0 .1 .1 .1 .1 .1 .0 .1 .0 .1) in
+    let l = held-sized (c .before .before .before .before .before .before .before .before .before .before) in
+    let u = queues-sized (c .before .before .before .before .before .before .before .before .before .before) in
     let m : answered (c .before .if2 .self) (c .before .if2 .s) (c .before .if2 .status) noWords (c .before .if2 .ended) ≡ answerOf (sendTo (a .t1) (a .n .0) q (a .wait) (a .front) (c .before .before .before .before .message-in .result)) =
     ⊎-elim
     (λ w. rw (w .7, w .8, w .9, w .10, ← c .before .before .has-room .ensures, w .0 .taken, ← w .2 .ensures ∙ ap (firstAt (a .t1 .scheduler)) (w .1 .ensures), lt-ltb (w .2 .result .0) 32 (w .4 .taken), w .6 .ensures, w .5 .ensures))

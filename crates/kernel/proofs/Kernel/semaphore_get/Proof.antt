@@ -16,6 +16,11 @@ use Rattle.kernel.proofs.Laws.Arms.{refused-by}
 use Rattle.kernel.proofs.Kernel.semaphore_get.Statement.{statement}
 use Rattle.kernel.proofs.Kernel.semaphore_get.Tie as tie
 
+-- the size of a table
+module _ (x : tie.Start) where
+  held-sized : length (x .args .t1 .held) ≡ 32
+  held-sized = search length-mapped
+
 -- the reason that is found is that of the definition
 module _ (k : tie.After-semaphore-get) where
   reason : let a = k .before .before .before .args in k .semaphore-get .result ≡ semaphoreGetRefusal (semaphoreAt (a .t1) (a .n .0)) (a .wait) (a .caller)
@@ -28,7 +33,7 @@ returns-2 c =
     let a = c .before .before .before .before .before .before .before .before .args in
     let x = c .before .before .before .before .before .before .semaphore-in .result in
     let z = sym (reason (c .before .before .before .before .before)) ∙ c .before .before .before .before .if1 .left in
-    let l : length (a .t1 .held) ≡ 32 = length-mapped _ (a .t1 .held) 32 (c .before .before .before .before .before .before .before .before .good .0 .1 .1 .1 .0 .1 .0 .1) in
+    let l = held-sized (c .before .before .before .before .before .before .before .before) in
     let m : answered (c .before .if2 .self) (c .before .if2 .s) (c .before .if2 .status) noWords 0 ≡ answerOf (semaphoreGet (a .t1) (a .caller) (a .n .0) (a .wait)) =
     ⊎-elim
     (λ w. rw (w .4, w .5, w .6, is-carried, ← c .before .before .before .before .before .before .semaphore-in .ensures, lt-ltb 0 (x .count) (w .0 .taken), w .3 .ensures, w .2 .ensures))

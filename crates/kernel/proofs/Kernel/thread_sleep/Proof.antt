@@ -25,7 +25,7 @@ unfolding threadSleep startWait answerOf carried answered withScheduler withHeld
 returns-2 c =
     let a = c .before .before .before .before .before .args in
     let z = sym (reason (c .before .before .before .before)) ∙ c .before .before .before .if1 .left in
-    let l : length (a .t1 .held) ≡ 32 = length-mapped _ (a .t1 .held) 32 (c .before .before .before .before .before .good .0 .1 .1 .1 .0 .1 .0 .1) in
+    let l : length (a .t1 .held) ≡ 32 = search length-mapped in
     let m : answered (c .before .if2 .self) (c .before .if2 .s) (c .before .if2 .status) noWords 0 ≡ answerOf (threadSleep (a .t1) (a .caller) (a .ticks)) =
     ⊎-elim
     (λ w. rw (w .6, w .7, w .8, is-carried, ne-eqb (a .ticks) 0 (w .0 .taken), w .3 .ensures, w .5 .ensures))
