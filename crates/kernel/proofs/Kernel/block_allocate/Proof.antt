@@ -26,7 +26,7 @@ module _ (x : tie.Start) where
 module _ (k : tie.After-allocate) where
   reason : let a = k .before .before .before .args in k .allocate .result ≡ allocateRefusal (poolAt (a .t1) (a .n .0)) (a .wait) (a .caller)
   unfolding poolAt
-  reason = let a = k .before .before .before .args in k .allocate .ensures ∙ ap (λ (x : Pool). allocateRefusal x (a .wait) (a .caller)) (k .before .pool-in .ensures)
+  reason = rw (← k .before .pool-in .ensures) (k .allocate .ensures)
 
 returns-2 : tie.Need-returns-2
 unfolding blockAllocate startWait answerOf carried answered withScheduler withHeld withPool poolAt
@@ -34,7 +34,8 @@ returns-2 c =
     let a = c .before .before .before .before .before .before .before .before .args in
     let i = c .before .before .before .before .before .before .pool-in .ensures in
     let z = sym (reason (c .before .before .before .before .before)) ∙ c .before .before .before .before .if1 .left in
-    let t : c .before .before .has-free .result ≡ ltb 0 (poolAt (a .t1) (a .n .0) .free) = c .before .before .has-free .ensures ∙ ap (λ (x : Pool). ltb 0 (x .free)) i in
+    let t : c .before .before .has-free .result ≡ ltb 0 (poolAt (a .t1) (a .n .0) .free) =
+    c .before .before .has-free .ensures ∙ ap (λ (x : Pool). ltb 0 (x .free)) i in
     let l = held-sized (c .before .before .before .before .before .before .before .before) in
     let m : answered (c .before .if2 .self) (c .before .if2 .s) (c .before .if2 .status) (c .before .if2 .words) 0 ≡ answerOf (blockAllocate (a .t1) (a .caller) (a .n .0) (a .wait)) =
     ⊎-elim

@@ -1,7 +1,6 @@
-use mathlib.Core.Path.{_≡_, sym, ap, _∙_}
+use mathlib.Core.Path.{_≡_, sym, _∙_}
 use native.Mathlib.Omega.{arith}
 use borrow.Author.Needs.{needs}
-use Rattle.blocks.specs.declared.pool.Pool.{Pool}
 use Rattle.blocks.specs.Pools.{freshPool, blockSizesb}
 use Rattle.blocks.proofs.Laws.Pools.{block-half}
 use Rattle.calls.specs.Refusals.{poolCreateRefusal}
@@ -15,9 +14,11 @@ use Rattle.kernel.proofs.Kernel.block_pool_create.Tie as tie
 
 -- the reason that is found is that of the definition
 module _ (k : tie.After-pool-create) where
-  reason : let a = k .before .before .before .args in k .pool-create .result ≡ poolCreateRefusal (a .n .0) (poolAt (a .self) (a .n .0)) (a .block) (a .total) (a .caller)
+  reason :
+      let a = k .before .before .before .args in
+      k .pool-create .result ≡ poolCreateRefusal (a .n .0) (poolAt (a .self) (a .n .0)) (a .block) (a .total) (a .caller)
   unfolding poolAt
-  reason = let a = k .before .before .before .args in k .pool-create .ensures ∙ ap (λ (x : Pool). poolCreateRefusal (a .n .0) x (a .block) (a .total) (a .caller)) (k .before .pool-in .ensures)
+  reason = rw (← k .before .pool-in .ensures) (k .pool-create .ensures)
 
 returns-2 : tie.Need-returns-2
 unfolding poolCreate poolCreateRefusal answerOf carried answered withScheduler withPool poolAt
@@ -25,7 +26,8 @@ returns-2 c =
     let a = c .before .before .before .before .before .before .before .before .args in
     let z = sym (reason (c .before .before .before .before .before)) ∙ c .before .before .before .before .if1 .left in
     let s = unless-none (blockSizesb (a .block) (a .total)) 5 (omega arith) (first-none _ _ (second-none _ _ z)) in
-    let x : c .before .before .of .result ≡ freshPool (a .block) (a .total) = c .before .before .of .ensures ∙ (λ j. freshPool (block-half (a .block) (a .total) s j) (a .total)) in
+    let x : c .before .before .of .result ≡ freshPool (a .block) (a .total) =
+    c .before .before .of .ensures ∙ (λ j. freshPool (block-half (a .block) (a .total) s j) (a .total)) in
     rw is-carried (c .carried .ensures ∙ rw (c .before .pools-with .ensures, x))
 
 pub block-pool-create-spec : {M : Type 1} → statement M

@@ -2,7 +2,6 @@ use mathlib.Core.Path.{_≡_, sym, ap, _∙_}
 use borrow.Author.Needs.{needs}
 use Rattle.lines.specs.Lines.{members}
 use Rattle.scheduler.specs.Orders.{lineAt}
-use Rattle.blocks.specs.declared.pool.Pool.{Pool}
 use Rattle.blocks.specs.Pools.{noPool}
 use Rattle.calls.specs.Held.{noWords}
 use Rattle.calls.specs.Refusals.{poolDeleteRefusal}
@@ -20,14 +19,15 @@ use Rattle.kernel.proofs.Kernel.block_pool_delete.Tie as tie
 module _ (k : tie.After-pool-delete) where
   reason : let a = k .before .before .before .args in k .pool-delete .result ≡ poolDeleteRefusal (poolAt (a .self) (a .n .0)) (a .caller)
   unfolding poolAt
-  reason = let a = k .before .before .before .args in k .pool-delete .ensures ∙ ap (λ (x : Pool). poolDeleteRefusal x (a .caller)) (k .before .pool-in .ensures)
+  reason = rw (← k .before .pool-in .ensures) (k .pool-delete .ensures)
 
 returns-2 : tie.Need-returns-2
 unfolding poolDelete poolAt withPool
 returns-2 c =
     let a = c .before .before .before .before .before .before .before .before .before .before .args in
     let z = sym (reason (c .before .before .before .before .before .before .before)) ∙ c .before .before .before .before .before .before .if1 .left in
-    let m : members (c .before .before .before .line-at .result) ≡ lineAt (a .self .scheduler) (poolPlace (a .n .0)) = c .before .before .before .line-at .ensures .1 ∙ ap (lineAt (a .self .scheduler)) (c .before .before .before .before .place .ensures) in
+    let m : members (c .before .before .before .line-at .result) ≡ lineAt (a .self .scheduler) (poolPlace (a .n .0)) =
+    c .before .before .before .line-at .ensures .1 ∙ ap (lineAt (a .self .scheduler)) (c .before .before .before .before .place .ensures) in
     let p = lineAt (a .self .scheduler) (poolPlace (a .n .0)) in
     rw is-carried (c .ended-each .ensures ∙ rw (m, c .before .pools-with .ensures, c .before .before .none .ensures) (ap (λ (k : Kernel). answerOf (carried k 0 noWords p)) (each-pool (a .self) (a .n .0) noPool 1 noWords p)))
 

@@ -1,4 +1,4 @@
-use mathlib.Core.Path.{_≡_, sym, ap, _∙_}
+use mathlib.Core.Path.{_≡_, sym, _∙_}
 use borrow.Author.Needs.{needs}
 use Rattle.calls.specs.Refusals.{poolRefusal}
 use Rattle.kernel.specs.Tables.{poolAt, withScheduler}
@@ -13,7 +13,7 @@ use Rattle.kernel.proofs.Kernel.block_pool_prioritize.Tie as tie
 module _ (k : tie.After-pool) where
   reason : let a = k .before .before .before .args in k .pool .result ≡ poolRefusal (poolAt (a .self) (a .n .0))
   unfolding poolAt
-  reason = k .pool .ensures ∙ ap poolRefusal (k .before .pool-in .ensures)
+  reason = rw (← k .before .pool-in .ensures) (k .pool .ensures)
 
 returns-2 : tie.Need-returns-2
 unfolding poolPrioritize answerOf carried answered withScheduler poolAt

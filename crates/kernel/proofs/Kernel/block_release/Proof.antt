@@ -21,7 +21,7 @@ use Rattle.kernel.proofs.Kernel.block_release.Tie as tie
 module _ (k : tie.After-release) where
   reason : let a = k .before .before .before .args in k .release .result ≡ releaseRefusal (poolAt (a .t1) (a .n .0)) (a .block)
   unfolding poolAt
-  reason = let a = k .before .before .before .args in k .release .ensures ∙ ap (λ (x : Pool). releaseRefusal x (a .block)) (k .before .pool-in .ensures)
+  reason = rw (← k .before .pool-in .ensures) (k .release .ensures)
 
 returns-2 : tie.Need-returns-2
 unfolding blockRelease endWait answerOf carried answered withHeld withScheduler withPool poolAt
@@ -29,7 +29,8 @@ returns-2 c =
     let a = c .before .before .before .before .before .before .before .before .before .before .args in
     let i = c .before .before .before .before .before .before .before .before .pool-in .ensures in
     let z = sym (reason (c .before .before .before .before .before .before .before)) ∙ c .before .before .before .before .before .before .if1 .left in
-    let f : c .before .before .before .first-at .result .0 ≡ firstAt (a .t1 .scheduler) (poolPlace (a .n .0)) = c .before .before .before .first-at .ensures ∙ ap (firstAt (a .t1 .scheduler)) (c .before .before .before .before .place .ensures) in
+    let f : c .before .before .before .first-at .result .0 ≡ firstAt (a .t1 .scheduler) (poolPlace (a .n .0)) =
+    c .before .before .before .first-at .ensures ∙ ap (firstAt (a .t1 .scheduler)) (c .before .before .before .before .place .ensures) in
     let m : answered (c .before .if2 .self) (c .before .if2 .s) success noWords (c .before .if2 .ended) ≡ answerOf (blockRelease (a .t1) (a .n .0) (a .block)) =
     ⊎-elim
     (λ w. rw (w .4, w .5, w .6, is-carried, ← f, lt-ltb (c .before .before .before .first-at .result .0) 32 (w .0 .taken), w .3 .ensures, w .2 .ensures, w .1 .ensures))

@@ -1,6 +1,5 @@
-use mathlib.Core.Path.{_≡_, sym, ap, _∙_}
+use mathlib.Core.Path.{_≡_, sym, _∙_}
 use borrow.Author.Needs.{needs}
-use Rattle.objects.specs.declared.group.Group.{Group}
 use Rattle.calls.specs.Refusals.{groupCreateRefusal}
 use Rattle.kernel.specs.Tables.{groupAt, withScheduler, withGroup}
 use Rattle.kernel.specs.Answers.{answerOf, carried, answered}
@@ -14,7 +13,7 @@ use Rattle.kernel.proofs.Kernel.event_flags_create.Tie as tie
 module _ (k : tie.After-group-create) where
   reason : let a = k .before .before .before .args in k .group-create .result ≡ groupCreateRefusal (a .n .0) (groupAt (a .self) (a .n .0)) (a .caller)
   unfolding groupAt
-  reason = let a = k .before .before .before .args in k .group-create .ensures ∙ ap (λ (g : Group). groupCreateRefusal (a .n .0) g (a .caller)) (k .before .group-in .ensures)
+  reason = rw (← k .before .group-in .ensures) (k .group-create .ensures)
 
 returns-2 : tie.Need-returns-2
 unfolding groupCreate groupAt answerOf carried answered withScheduler withGroup

@@ -2,7 +2,6 @@ use mathlib.Core.Path.{_≡_, sym, ap, _∙_}
 use borrow.Author.Needs.{needs}
 use Rattle.lines.specs.Lines.{members}
 use Rattle.scheduler.specs.Orders.{lineAt}
-use Rattle.objects.specs.declared.group.Group.{Group}
 use Rattle.objects.specs.Groups.{noGroup}
 use Rattle.calls.specs.Held.{noWords}
 use Rattle.calls.specs.Refusals.{groupDeleteRefusal}
@@ -20,7 +19,7 @@ use Rattle.kernel.proofs.Kernel.event_flags_delete.Tie as tie
 module _ (k : tie.After-group-delete) where
   reason : let a = k .before .before .before .args in k .group-delete .result ≡ groupDeleteRefusal (groupAt (a .self) (a .n .0)) (a .caller)
   unfolding groupAt
-  reason = let a = k .before .before .before .args in k .group-delete .ensures ∙ ap (λ (g : Group). groupDeleteRefusal g (a .caller)) (k .before .group-in .ensures)
+  reason = rw (← k .before .group-in .ensures) (k .group-delete .ensures)
 
 returns-2 : tie.Need-returns-2
 unfolding groupDelete groupAt withGroup
@@ -28,7 +27,8 @@ returns-2 c =
     let a = c .before .before .before .before .before .before .before .before .before .before .args in
     let z = sym (reason (c .before .before .before .before .before .before .before)) ∙ c .before .before .before .before .before .before .if1 .left in
     let line = lineAt (a .self .scheduler) (groupPlace (a .n .0)) in
-    let m : members (c .before .before .before .line-at .result) ≡ line = c .before .before .before .line-at .ensures .1 ∙ ap (lineAt (a .self .scheduler)) (c .before .before .before .before .place .ensures) in
+    let m : members (c .before .before .before .line-at .result) ≡ line =
+    c .before .before .before .line-at .ensures .1 ∙ ap (lineAt (a .self .scheduler)) (c .before .before .before .before .place .ensures) in
     rw is-carried (c .ended-each .ensures ∙ rw (m, c .before .groups-with .ensures, c .before .before .none .ensures) (ap (λ (k : Kernel). answerOf (carried k 0 noWords line)) (each-group (a .self) (a .n .0) noGroup 1 noWords line)))
 
 pub event-flags-delete-spec : {M : Type 1} → statement M

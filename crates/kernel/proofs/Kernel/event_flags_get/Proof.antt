@@ -1,12 +1,11 @@
 use borrow.Author.Needs.{needs}
-use mathlib.Core.Path.{_≡_, sym, ap, _∙_}
+use mathlib.Core.Path.{_≡_, sym, _∙_}
 use mathlib.Core.Logic.{⊎-elim}
 use native.Mathlib.Omega.{arith}
 use lib.Dec.{leb}
 use lib.ListN.{length}
 use borrow.Author.Tests.{leb-true}
 use Rattle.scheduler.proofs.Laws.Threads.{length-mapped}
-use Rattle.objects.specs.declared.group.Group.{Group}
 use Rattle.objects.specs.Groups.{metb}
 use Rattle.calls.specs.Held.{requesting}
 use Rattle.calls.specs.Refusals.{getRefusal}
@@ -26,19 +25,24 @@ module _ (x : tie.Start) where
 
 -- the reason that is found is that of the definition
 module _ (k : tie.After-flags-get) where
-  reason : let a = k .before .before .before .args in k .flags-get .result ≡ getRefusal (groupAt (a .t1) (a .n .0)) (a .request) (a .option) (a .wait) (a .caller)
+  reason :
+      let a = k .before .before .before .args in
+      k .flags-get .result ≡ getRefusal (groupAt (a .t1) (a .n .0)) (a .request) (a .option) (a .wait) (a .caller)
   unfolding groupAt
-  reason = let a = k .before .before .before .args in k .flags-get .ensures ∙ ap (λ (g : Group). getRefusal g (a .request) (a .option) (a .wait) (a .caller)) (k .before .group-in .ensures)
+  reason = rw (← k .before .group-in .ensures) (k .flags-get .ensures)
 
 returns-2 : tie.Need-returns-2
 unfolding groupGet startWait groupAt getRefusal answerOf carried answered withScheduler withHeld withGroup
 returns-2 c =
     let a = c .before .before .before .before .before .before .before .before .before .args in
-    let i : c .before .before .before .before .before .before .before .group-in .result ≡ groupAt (a .t1) (a .n .0) = c .before .before .before .before .before .before .before .group-in .ensures in
+    let i : c .before .before .before .before .before .before .before .group-in .result ≡ groupAt (a .t1) (a .n .0) =
+    c .before .before .before .before .before .before .before .group-in .ensures in
     let z = sym (reason (c .before .before .before .before .before .before)) ∙ c .before .before .before .before .before .if1 .left in
     let known = leb-true (a .option) 3 (unless-none (leb (a .option) 3) 8 (omega arith) (first-none _ _ (second-none _ _ z))) in
-    let o : c .before .before .before .before .option-of .result ≡ a .option = let h = c .before .before .before .before .option-of .ensures in omega (arith, h, known) in
-    let t : c .before .before .is-met .result ≡ metb (groupAt (a .t1) (a .n .0) .flags) (a .request) (a .option) = c .before .before .is-met .ensures ∙ (λ j. metb (i j .flags) (a .request) (o j)) in
+    let h = c .before .before .before .before .option-of .ensures in
+    let o : c .before .before .before .before .option-of .result ≡ a .option = omega (arith, h, known) in
+    let t : c .before .before .is-met .result ≡ metb (groupAt (a .t1) (a .n .0) .flags) (a .request) (a .option) =
+    c .before .before .is-met .ensures ∙ (λ j. metb (i j .flags) (a .request) (o j)) in
     let l = held-sized (c .before .before .before .before .before .before .before .before .before) in
     let m : answered (c .before .if2 .self) (c .before .if2 .s) (c .before .if2 .status) (c .before .if2 .words) 0 ≡ answerOf (groupGet (a .t1) (a .caller) (a .n .0) (a .request) (a .option) (a .wait)) =
     ⊎-elim

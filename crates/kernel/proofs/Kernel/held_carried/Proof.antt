@@ -16,7 +16,8 @@ unfolding withHeld
 returns c =
     let a = c .before .before .before .args in
     let l : length (a .t1 .held) ≡ 32 = search length-mapped in
-    let m : c .before .if1 .self ≡ withHeld (a .t1) (a .t .0) (a .h) = ⊎-elim (λ w. w .1) (λ w. w .1 ∙ sym (held-out (a .t1) (a .t .0) (a .h) l (w .0 .left))) (c .before .if1 .came) in
+    let m : c .before .if1 .self ≡ withHeld (a .t1) (a .t .0) (a .h) =
+    ⊎-elim (λ w. w .1) (λ w. w .1 ∙ sym (held-out (a .t1) (a .t .0) (a .h) l (w .0 .left))) (c .before .if1 .came) in
     c .carried .ensures ∙ ap (λ (k : Kernel). answered k (a .s) (a .status) noWords (a .ended)) m
 
 pub held-carried-spec : {M : Type 1} → statement M

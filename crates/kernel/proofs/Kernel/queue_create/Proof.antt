@@ -1,10 +1,9 @@
 use borrow.Author.Needs.{needs}
-use mathlib.Core.Path.{_≡_, sym, ap, _∙_}
+use mathlib.Core.Path.{_≡_, sym, _∙_}
 use mathlib.Core.Logic.{⊎-elim}
 use native.Mathlib.Omega.{arith}
 use lib.ListN.{length}
 use Rattle.scheduler.proofs.Laws.Threads.{length-mapped}
-use Rattle.objects.specs.declared.queue.Queue.{Queue}
 use Rattle.objects.specs.Queues.{sizesFitb, emptyQueue}
 use Rattle.objects.proofs.Laws.Queues.{words-byte, storage-byte}
 use Rattle.calls.specs.Refusals.{queueCreateRefusal}
@@ -23,9 +22,11 @@ module _ (x : tie.Start) where
 
 -- the reason that is found is that of the definition
 module _ (k : tie.After-queue-create) where
-  reason : let a = k .before .before .before .args in k .queue-create .result ≡ queueCreateRefusal (a .n .0) (queueAt (a .t1) (a .n .0)) (a .words) (a .storage) (a .caller)
+  reason :
+      let a = k .before .before .before .args in
+      k .queue-create .result ≡ queueCreateRefusal (a .n .0) (queueAt (a .t1) (a .n .0)) (a .words) (a .storage) (a .caller)
   unfolding queueAt
-  reason = let a = k .before .before .before .args in k .queue-create .ensures ∙ ap (λ (q : Queue). queueCreateRefusal (a .n .0) q (a .words) (a .storage) (a .caller)) (k .before .queue-in .ensures)
+  reason = rw (← k .before .queue-in .ensures) (k .queue-create .ensures)
 
 returns-2 : tie.Need-returns-2
 unfolding queueCreate queueCreateRefusal answerOf carried answered withScheduler withQueue queueAt
@@ -33,9 +34,11 @@ returns-2 c =
     let a = c .before .before .before .before .before .before .before .before .before .args in
     let z = sym (reason (c .before .before .before .before .before .before)) ∙ c .before .before .before .before .before .if1 .left in
     let f = unless-none (sizesFitb (a .words) (a .storage)) 5 (omega arith) (first-none _ _ (second-none _ _ z)) in
-    let x : c .before .before .before .of .result ≡ emptyQueue (a .words) (a .storage) = c .before .before .before .of .ensures ∙ (λ j. emptyQueue (words-byte (a .words) (a .storage) f j) (storage-byte (a .words) (a .storage) f j)) in
+    let x : c .before .before .before .of .result ≡ emptyQueue (a .words) (a .storage) =
+    c .before .before .before .of .ensures ∙ (λ j. emptyQueue (words-byte (a .words) (a .storage) f j) (storage-byte (a .words) (a .storage) f j)) in
     let l = queues-sized (c .before .before .before .before .before .before .before .before .before) in
-    let m : c .before .if2 .self ≡ withQueue (a .t1) (a .n .0) (c .before .before .before .of .result) = ⊎-elim (λ w. w .1) (λ w. w .1 ∙ sym (queue-out (a .t1) (a .n .0) (c .before .before .before .of .result) l (w .0 .left))) (c .before .if2 .came) in
+    let m : c .before .if2 .self ≡ withQueue (a .t1) (a .n .0) (c .before .before .before .of .result) =
+    ⊎-elim (λ w. w .1) (λ w. w .1 ∙ sym (queue-out (a .t1) (a .n .0) (c .before .before .before .of .result) l (w .0 .left))) (c .before .if2 .came) in
     rw is-carried (c .carried .ensures ∙ rw (m, x))
 
 pub queue-create-spec : {M : Type 1} → statement M

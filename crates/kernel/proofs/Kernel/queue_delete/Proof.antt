@@ -1,6 +1,5 @@
-use mathlib.Core.Path.{_≡_, sym, ap, _∙_}
+use mathlib.Core.Path.{_≡_, sym, _∙_}
 use borrow.Author.Needs.{needs}
-use Rattle.objects.specs.declared.queue.Queue.{Queue}
 use Rattle.calls.specs.Refusals.{queueDeleteRefusal}
 use Rattle.kernel.specs.Tables.{queueAt}
 use Rattle.kernel.specs.Queues.{queueDelete}
@@ -13,7 +12,7 @@ use Rattle.kernel.proofs.Kernel.queue_delete.Tie as tie
 module _ (k : tie.After-queue-delete) where
   reason : let a = k .before .before .before .args in k .queue-delete .result ≡ queueDeleteRefusal (queueAt (a .self) (a .n .0)) (a .caller)
   unfolding queueAt
-  reason = let a = k .before .before .before .args in k .queue-delete .ensures ∙ ap (λ (q : Queue). queueDeleteRefusal q (a .caller)) (k .before .queue-in .ensures)
+  reason = rw (← k .before .queue-in .ensures) (k .queue-delete .ensures)
 
 returns-2 : tie.Need-returns-2
 unfolding queueDelete queueAt

@@ -16,7 +16,7 @@ use Rattle.kernel.proofs.Kernel.queue_flush.Tie as tie
 module _ (k : tie.After-queue) where
   reason : let a = k .before .before .before .args in k .queue .result ≡ queueRefusal (queueAt (a .self) (a .n .0))
   unfolding queueAt
-  reason = k .queue .ensures ∙ ap queueRefusal (k .before .queue-in .ensures)
+  reason = rw (← k .before .queue-in .ensures) (k .queue .ensures)
 
 returns-2 : tie.Need-returns-2
 unfolding queueFlush answerOf carried answered withScheduler queueAt
@@ -24,7 +24,8 @@ returns-2 c =
     let a = c .before .before .before .before .before .before .before .before .args in
     let i = c .before .before .before .before .before .before .queue-in .ensures in
     let z = sym (reason (c .before .before .before .before .before)) ∙ c .before .before .before .before .if1 .left in
-    let t : emptyb (queueAt (a .self) (a .n .0)) ≡ true = sym (c .before .before .before .is-empty .ensures ∙ ap emptyb i) ∙ c .before .before .if2 .taken in
+    let t : emptyb (queueAt (a .self) (a .n .0)) ≡ true =
+    sym (c .before .before .before .is-empty .ensures ∙ ap emptyb i) ∙ c .before .before .if2 .taken in
     rw (is-carried, t) (c .carried .ensures)
 
 returns-3 : tie.Need-returns-3
@@ -33,8 +34,10 @@ returns-3 c =
     let a = c .before .before .before .before .before .before .before .before .args in
     let i = c .before .before .before .before .before .before .queue-in .ensures in
     let z = sym (reason (c .before .before .before .before .before)) ∙ c .before .before .before .before .if1 .left in
-    let t : emptyb (queueAt (a .self) (a .n .0)) ≡ false = sym (c .before .before .before .is-empty .ensures ∙ ap emptyb i) ∙ c .before .before .if2 .left in
-    rw (is-carried, t) (c .queue-ended .ensures ∙ rw (c .before .flushed .ensures) (ap (λ (q : Queue). answerOf (endQueue (a .self) (a .n .0) (flushed q) 0)) i))
+    let t : emptyb (queueAt (a .self) (a .n .0)) ≡ false =
+    sym (c .before .before .before .is-empty .ensures ∙ ap emptyb i) ∙ c .before .before .if2 .left in
+    rw (is-carried, t)
+    (c .queue-ended .ensures ∙ rw (c .before .flushed .ensures) (ap (λ (q : Queue). answerOf (endQueue (a .self) (a .n .0) (flushed q) 0)) i))
 
 pub queue-flush-spec : {M : Type 1} → statement M
 unfolding queueFlush

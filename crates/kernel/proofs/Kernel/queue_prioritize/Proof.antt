@@ -1,4 +1,4 @@
-use mathlib.Core.Path.{_≡_, sym, ap, _∙_}
+use mathlib.Core.Path.{_≡_, sym, _∙_}
 use borrow.Author.Needs.{needs}
 use Rattle.calls.specs.Refusals.{queueRefusal}
 use Rattle.kernel.specs.Tables.{queueAt, withScheduler}
@@ -13,7 +13,7 @@ use Rattle.kernel.proofs.Kernel.queue_prioritize.Tie as tie
 module _ (k : tie.After-queue) where
   reason : let a = k .before .before .before .args in k .queue .result ≡ queueRefusal (queueAt (a .self) (a .n .0))
   unfolding queueAt
-  reason = k .queue .ensures ∙ ap queueRefusal (k .before .queue-in .ensures)
+  reason = rw (← k .before .queue-in .ensures) (k .queue .ensures)
 
 returns-2 : tie.Need-returns-2
 unfolding queuePrioritize answerOf carried answered withScheduler queueAt

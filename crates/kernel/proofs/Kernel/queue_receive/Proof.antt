@@ -60,7 +60,7 @@ module _ (x : tie.Start) where
 module _ (k : tie.After-receive) where
   reason : let a = k .before .before .before .args in k .receive .result ≡ receiveRefusal (queueAt (a .t1) (a .n .0)) (a .wait) (a .caller)
   unfolding queueAt
-  reason = let a = k .before .before .before .args in k .receive .ensures ∙ ap (λ (q : Queue). receiveRefusal q (a .wait) (a .caller)) (k .before .queue-in .ensures)
+  reason = rw (← k .before .queue-in .ensures) (k .receive .ensures)
 
 returns-2 : tie.Need-returns-2
 unfolding queueReceive queueAt receiveFrom startWait heldAt answerOf carried answered withScheduler withHeld withQueue

@@ -28,9 +28,11 @@ module _ (x : tie.Start) where
 
 -- the reason that is found is that of the definition
 module _ (k : tie.After-send) where
-  reason : let a = k .before .before .before .before .args in k .send .result ≡ sendRefusal (queueAt (a .t1) (a .n .0)) (a .index) (length (a .messages .now)) (a .wait) (a .caller)
+  reason :
+      let a = k .before .before .before .before .args in
+      k .send .result ≡ sendRefusal (queueAt (a .t1) (a .n .0)) (a .index) (length (a .messages .now)) (a .wait) (a .caller)
   unfolding queueAt
-  reason = let a = k .before .before .before .before .args in k .send .ensures ∙ ap (λ (q : Queue). sendRefusal q (a .index) (length (a .messages .now)) (a .wait) (a .caller)) (k .before .queue-in .ensures)
+  reason = rw (← k .before .queue-in .ensures) (k .send .ensures)
 
 returns-2 : tie.Need-returns-2
 unfolding queueSend queueAt sendTo endWait startWait answerOf carried answered withScheduler withHeld withQueue

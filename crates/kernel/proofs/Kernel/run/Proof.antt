@@ -188,7 +188,8 @@ run-spec =
     (λ c.
     let a = c .before .before .before .before .before .before .before .before .before .args in
     let b = a .bytes .now in
-    let n : c .before .before .before .before .wanted .result ≤ countOf b = (let s = c .before .before .before .before .wanted .ensures in omega (arith, s)) in
+    let n : c .before .before .before .before .wanted .result ≤ countOf b = (let s =
+    c .before .before .before .before .wanted .ensures in omega (arith, s)) in
     let w = count-most b in
     let u = sym (c .before .before .before .is-sound .ensures) ∙ not-false (c .before .before .before .is-sound .result) (c .before .before .if2 .left) in
     let x = c .before .before .before .before .before .before .before .before .before in

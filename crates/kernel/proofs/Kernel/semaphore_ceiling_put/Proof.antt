@@ -1,6 +1,5 @@
 use borrow.Author.Needs.{needs}
 use mathlib.Core.Path.{_≡_, sym, ap, _∙_}
-use Rattle.objects.specs.declared.semaphore.Semaphore.{Semaphore}
 use Rattle.calls.specs.Refusals.{semaphoreRefusal, ceilingRefusal}
 use Rattle.kernel.specs.Tables.{semaphoreAt}
 use Rattle.kernel.specs.Answers.{answerOf}
@@ -14,7 +13,7 @@ use Rattle.kernel.proofs.Kernel.semaphore_ceiling_put.Tie as tie
 module _ (k : tie.After-ceiling-put) where
   reason : let a = k .before .before .before .args in k .ceiling-put .result ≡ ceilingRefusal (semaphoreAt (a .self) (a .n .0)) (a .ceiling)
   unfolding semaphoreAt
-  reason = let a = k .before .before .before .args in k .ceiling-put .ensures ∙ ap (λ (x : Semaphore). ceilingRefusal x (a .ceiling)) (k .before .semaphore-in .ensures)
+  reason = rw (← k .before .semaphore-in .ensures) (k .ceiling-put .ensures)
 
 returns-2 : tie.Need-returns-2
 unfolding semaphorePut semaphoreCeilingPut semaphoreAt semaphoreRefusal ceilingRefusal

@@ -1,6 +1,5 @@
-use mathlib.Core.Path.{_≡_, sym, ap, _∙_}
+use mathlib.Core.Path.{_≡_, sym, _∙_}
 use borrow.Author.Needs.{needs}
-use Rattle.objects.specs.declared.semaphore.Semaphore.{Semaphore}
 use Rattle.calls.specs.Refusals.{semaphoreCreateRefusal}
 use Rattle.kernel.specs.Tables.{semaphoreAt, withScheduler, withHeld, withSemaphore, withClock, given}
 use Rattle.kernel.specs.Answers.{answerOf, carried, answered}
@@ -12,9 +11,11 @@ use Rattle.kernel.proofs.Kernel.semaphore_create.Tie as tie
 
 -- the reason that is found is that of the definition
 module _ (k : tie.After-semaphore-create) where
-  reason : let a = k .before .before .before .args in k .semaphore-create .result ≡ semaphoreCreateRefusal (a .n .0) (semaphoreAt (a .self) (a .n .0)) (a .caller)
+  reason :
+      let a = k .before .before .before .args in
+      k .semaphore-create .result ≡ semaphoreCreateRefusal (a .n .0) (semaphoreAt (a .self) (a .n .0)) (a .caller)
   unfolding semaphoreAt
-  reason = let a = k .before .before .before .args in k .semaphore-create .ensures ∙ ap (λ (x : Semaphore). semaphoreCreateRefusal (a .n .0) x (a .caller)) (k .before .semaphore-in .ensures)
+  reason = rw (← k .before .semaphore-in .ensures) (k .semaphore-create .ensures)
 
 returns-2 : tie.Need-returns-2
 unfolding semaphoreCreate answerOf carried answered given withHeld withScheduler withSemaphore withClock semaphoreAt

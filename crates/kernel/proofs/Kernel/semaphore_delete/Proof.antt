@@ -2,7 +2,6 @@ use mathlib.Core.Path.{_≡_, sym, ap, _∙_}
 use borrow.Author.Needs.{needs}
 use Rattle.lines.specs.Lines.{members}
 use Rattle.scheduler.specs.Orders.{lineAt}
-use Rattle.objects.specs.declared.semaphore.Semaphore.{Semaphore}
 use Rattle.calls.specs.Held.{noWords}
 use Rattle.calls.specs.Refusals.{semaphoreDeleteRefusal}
 use Rattle.kernel.specs.declared.Kernel.{Kernel}
@@ -18,16 +17,19 @@ use Rattle.kernel.proofs.Kernel.semaphore_delete.Tie as tie
 
 -- the reason that is found is that of the definition
 module _ (k : tie.After-semaphore-delete) where
-  reason : let a = k .before .before .before .args in k .semaphore-delete .result ≡ semaphoreDeleteRefusal (semaphoreAt (a .self) (a .n .0)) (a .caller)
+  reason :
+      let a = k .before .before .before .args in
+      k .semaphore-delete .result ≡ semaphoreDeleteRefusal (semaphoreAt (a .self) (a .n .0)) (a .caller)
   unfolding semaphoreAt
-  reason = let a = k .before .before .before .args in k .semaphore-delete .ensures ∙ ap (λ (x : Semaphore). semaphoreDeleteRefusal x (a .caller)) (k .before .semaphore-in .ensures)
+  reason = rw (← k .before .semaphore-in .ensures) (k .semaphore-delete .ensures)
 
 returns-2 : tie.Need-returns-2
 unfolding semaphoreDelete semaphoreAt withSemaphore
 returns-2 c =
     let a = c .before .before .before .before .before .before .before .before .before .before .args in
     let z = sym (reason (c .before .before .before .before .before .before .before)) ∙ c .before .before .before .before .before .before .if1 .left in
-    let m : members (c .before .before .before .line-at .result) ≡ lineAt (a .self .scheduler) (semaphorePlace (a .n .0)) = c .before .before .before .line-at .ensures .1 ∙ ap (lineAt (a .self .scheduler)) (c .before .before .before .before .place .ensures) in
+    let m : members (c .before .before .before .line-at .result) ≡ lineAt (a .self .scheduler) (semaphorePlace (a .n .0)) =
+    c .before .before .before .line-at .ensures .1 ∙ ap (lineAt (a .self .scheduler)) (c .before .before .before .before .place .ensures) in
     let p = lineAt (a .self .scheduler) (semaphorePlace (a .n .0)) in
     rw is-carried (c .ended-each .ensures ∙ rw (m, c .before .semaphores-with .ensures, c .before .before .none .ensures) (ap (λ (k : Kernel). answerOf (carried k 0 noWords p)) (each-semaphore (a .self) (a .n .0) noSemaphore 1 noWords p)))
 

@@ -1,10 +1,9 @@
 use borrow.Author.Needs.{needs}
-use mathlib.Core.Path.{_≡_, sym, ap, _∙_}
+use mathlib.Core.Path.{_≡_, sym, _∙_}
 use mathlib.Core.Logic.{⊎-elim}
 use borrow.Author.Tests.{lt-ltb, le-ltb}
 use lib.ListN.{length}
 use Rattle.scheduler.proofs.Laws.Threads.{length-mapped}
-use Rattle.objects.specs.declared.semaphore.Semaphore.{Semaphore}
 use Rattle.calls.specs.Held.{noWords, waiting}
 use Rattle.calls.specs.Refusals.{semaphoreGetRefusal}
 use Rattle.kernel.specs.Tables.{semaphoreAt, withScheduler, withHeld, withSemaphore}
@@ -23,9 +22,11 @@ module _ (x : tie.Start) where
 
 -- the reason that is found is that of the definition
 module _ (k : tie.After-semaphore-get) where
-  reason : let a = k .before .before .before .args in k .semaphore-get .result ≡ semaphoreGetRefusal (semaphoreAt (a .t1) (a .n .0)) (a .wait) (a .caller)
+  reason :
+      let a = k .before .before .before .args in
+      k .semaphore-get .result ≡ semaphoreGetRefusal (semaphoreAt (a .t1) (a .n .0)) (a .wait) (a .caller)
   unfolding semaphoreAt
-  reason = let a = k .before .before .before .args in k .semaphore-get .ensures ∙ ap (λ (x : Semaphore). semaphoreGetRefusal x (a .wait) (a .caller)) (k .before .semaphore-in .ensures)
+  reason = rw (← k .before .semaphore-in .ensures) (k .semaphore-get .ensures)
 
 returns-2 : tie.Need-returns-2
 unfolding semaphoreGet startWait answerOf carried answered withScheduler withHeld withSemaphore semaphoreAt

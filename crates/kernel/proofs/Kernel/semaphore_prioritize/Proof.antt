@@ -1,4 +1,4 @@
-use mathlib.Core.Path.{_≡_, sym, ap, _∙_}
+use mathlib.Core.Path.{_≡_, sym, _∙_}
 use borrow.Author.Needs.{needs}
 use Rattle.calls.specs.Refusals.{semaphoreRefusal}
 use Rattle.kernel.specs.Tables.{semaphoreAt, withScheduler, withHeld, withSemaphore, withClock, given}
@@ -13,7 +13,7 @@ use Rattle.kernel.proofs.Kernel.semaphore_prioritize.Tie as tie
 module _ (k : tie.After-semaphore) where
   reason : let a = k .before .before .before .args in k .semaphore .result ≡ semaphoreRefusal (semaphoreAt (a .self) (a .n .0))
   unfolding semaphoreAt
-  reason = k .semaphore .ensures ∙ ap semaphoreRefusal (k .before .semaphore-in .ensures)
+  reason = rw (← k .before .semaphore-in .ensures) (k .semaphore .ensures)
 
 returns-2 : tie.Need-returns-2
 unfolding semaphorePrioritize answerOf carried answered given withHeld withScheduler withSemaphore withClock semaphoreAt

@@ -141,7 +141,16 @@ returns c =
     let p = c .before .before .loop2 in
     let ids = by .result .line .ids in
     let n : p .i ≡ length (members (by .result .line)) = omega (arith, p .inv .0, size .ensures, c .before .loop2-test .left) in
-    let k : Kernel = record { scheduler = a .t1 .scheduler; held = a .t1 .held; semaphores = a .t1 .semaphores; queues = a .t1 .queues; groups = store .result; pools = a .t1 .pools; clock = a .t1 .clock } in
+    let k : Kernel = record {
+      scheduler = a .t1 .scheduler;
+      held = a .t1 .held;
+      semaphores = a .t1 .semaphores;
+      queues = a .t1 .queues;
+      groups = store .result;
+      pools = a .t1 .pools;
+      clock =
+          a .t1 .clock;
+    } in
     let each : withScheduler (p .self) (p .s) ≡ endEach k 0 (two .result) (members (by .result .line)) =
     p .inv .4 ∙ (λ j. endEach k 0 (c .before .before .before .of2 .ensures j .words) (take (p .i) ids)) ∙ ap (endEach k 0 (two .result)) (ap (λ (j : ℕ). take j ids) n ∙ members-take (by .result .line)) in
     let done : c .carried .result ≡ answerOf (carried (endEach k 0 (two .result) (members (by .result .line))) 0 noWords (members (by .result .line))) =

@@ -1,10 +1,9 @@
-use mathlib.Core.Path.{_≡_, sym, ap, _∙_}
+use mathlib.Core.Path.{_≡_, sym, _∙_}
 use mathlib.Core.Bool.{_&&_, not}
 use native.Mathlib.Omega.{arith}
 use borrow.Author.Needs.{needs}
 use borrow.Author.Tests.{ltb-true, leb-true}
 use lib.Dec.{ltb, leb}
-use Rattle.scheduler.specs.declared.thread.Thread.{Thread}
 use Rattle.calls.specs.Refusals.{unless, createRefusal}
 use Rattle.kernel.specs.Tables.{threadOf, withScheduler, withHeld, given}
 use Rattle.kernel.specs.Answers.{answerOf, carried, answered}
@@ -16,8 +15,10 @@ use Rattle.kernel.proofs.Kernel.thread_create.Tie as tie
 
 -- the reason that is found is that of the definition
 module _ (k : tie.After-create) where
-  reason : let a = k .before .before .before .args in k .create .result ≡ createRefusal (a .t .0) (threadOf (a .self) (a .t .0)) (a .priority) (a .threshold) (a .start) (a .caller)
-  reason = let a = k .before .before .before .args in k .create .ensures ∙ ap (λ (x : Thread). createRefusal (a .t .0) x (a .priority) (a .threshold) (a .start) (a .caller)) (k .before .thread-at .ensures)
+  reason :
+      let a = k .before .before .before .args in
+      k .create .result ≡ createRefusal (a .t .0) (threadOf (a .self) (a .t .0)) (a .priority) (a .threshold) (a .start) (a .caller)
+  reason = rw (← k .before .thread-at .ensures) (k .create .ensures)
 
 cast-created : tie.Need-cast-created
 unfolding createRefusal

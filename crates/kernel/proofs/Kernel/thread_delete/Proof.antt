@@ -1,6 +1,5 @@
-use mathlib.Core.Path.{_≡_, sym, ap, _∙_}
+use mathlib.Core.Path.{_≡_, sym, _∙_}
 use borrow.Author.Needs.{needs}
-use Rattle.scheduler.specs.declared.thread.Thread.{Thread}
 use Rattle.calls.specs.Refusals.{deleteRefusal}
 use Rattle.kernel.specs.Tables.{threadOf, withScheduler, withHeld, given}
 use Rattle.kernel.specs.Answers.{answerOf, carried, answered}
@@ -13,7 +12,7 @@ use Rattle.kernel.proofs.Kernel.thread_delete.Tie as tie
 -- the reason that is found is that of the definition
 module _ (k : tie.After-delete) where
   reason : let a = k .before .before .before .args in k .delete .result ≡ deleteRefusal (threadOf (a .self) (a .t .0)) (a .caller)
-  reason = let a = k .before .before .before .args in k .delete .ensures ∙ ap (λ (x : Thread). deleteRefusal x (a .caller)) (k .before .thread-at .ensures)
+  reason = rw (← k .before .thread-at .ensures) (k .delete .ensures)
 
 returns-2 : tie.Need-returns-2
 unfolding threadDelete given answerOf carried answered withHeld withScheduler

@@ -18,8 +18,10 @@ returns-2 : tie.Need-returns-2
 unfolding threadFinish given answerOf carried answered withHeld withScheduler
 returns-2 c =
     let a = c .before .before .before .before .before .before .before .before .before .args in
-    let z : threadOnlyRefusal (a .caller) ≡ 0 = sym (c .before .before .before .before .before .before .before .before .thread-only .ensures) ∙ c .before .before .before .before .before .before .before .if1 .left in
-    rw (is-carried, ← c .before .before .before .before .thread-at .ensures) (c .held-carried .ensures ∙ rw (c .before .moved .ensures, c .before .before .of .ensures, c .before .before .before .in-state .ensures))
+    let z : threadOnlyRefusal (a .caller) ≡ 0 =
+    sym (c .before .before .before .before .before .before .before .before .thread-only .ensures) ∙ c .before .before .before .before .before .before .before .if1 .left in
+    rw (is-carried, ← c .before .before .before .before .thread-at .ensures)
+    (c .held-carried .ensures ∙ rw (c .before .moved .ensures, c .before .before .of .ensures, c .before .before .before .in-state .ensures))
 
 pub thread-finish-spec : {M : Type 1} → statement M
 unfolding threadFinish

@@ -15,8 +15,10 @@ use Rattle.kernel.proofs.Kernel.thread_preemption_change.Tie as tie
 
 -- the reason that is found is that of the definition
 module _ (k : tie.After-preemption-change) where
-  reason : let a = k .before .before .before .args in k .preemption-change .result ≡ preemptionRefusal (threadOf (a .self) (a .t .0)) (a .threshold) (a .caller)
-  reason = let a = k .before .before .before .args in k .preemption-change .ensures ∙ ap (λ (x : Thread). preemptionRefusal x (a .threshold) (a .caller)) (k .before .thread-at .ensures)
+  reason :
+      let a = k .before .before .before .args in
+      k .preemption-change .result ≡ preemptionRefusal (threadOf (a .self) (a .t .0)) (a .threshold) (a .caller)
+  reason = rw (← k .before .thread-at .ensures) (k .preemption-change .ensures)
 
 cast-preemption-changed : tie.Need-cast-preemption-changed
 unfolding preemptionRefusal
@@ -31,7 +33,8 @@ returns-2 : tie.Need-returns-2
 unfolding threadPreemptionChange answerOf carried answered given withHeld withScheduler withSemaphore withClock
 returns-2 c =
     let z = sym (reason (c .before .before .before .before .before)) ∙ c .before .before .before .before .if1 .left in
-    rw (is-carried, ← c .before .before .before .before .before .before .thread-at .ensures) (c .carried .ensures ∙ rw (c .before .preemption-changed .ensures, c .before .before .two-words .ensures))
+    rw (is-carried, ← c .before .before .before .before .before .before .thread-at .ensures)
+    (c .carried .ensures ∙ rw (c .before .preemption-changed .ensures, c .before .before .two-words .ensures))
 
 pub thread-preemption-change-spec : {M : Type 1} → statement M
 unfolding threadPreemptionChange

@@ -1,9 +1,8 @@
-use mathlib.Core.Path.{_≡_, sym, ap, _∙_}
+use mathlib.Core.Path.{_≡_, sym, _∙_}
 use native.Mathlib.Omega.{arith}
 use borrow.Author.Needs.{needs}
 use borrow.Author.Tests.{ltb-true}
 use lib.Dec.{ltb}
-use Rattle.scheduler.specs.declared.thread.Thread.{Thread}
 use Rattle.calls.specs.Refusals.{unless, priorityRefusal}
 use Rattle.kernel.specs.Tables.{threadOf, withScheduler, withHeld, withSemaphore, withClock, given}
 use Rattle.kernel.specs.Answers.{answerOf, carried, answered}
@@ -15,8 +14,10 @@ use Rattle.kernel.proofs.Kernel.thread_priority_change.Tie as tie
 
 -- the reason that is found is that of the definition
 module _ (k : tie.After-priority-change) where
-  reason : let a = k .before .before .before .args in k .priority-change .result ≡ priorityRefusal (threadOf (a .self) (a .t .0)) (a .priority) (a .caller)
-  reason = let a = k .before .before .before .args in k .priority-change .ensures ∙ ap (λ (x : Thread). priorityRefusal x (a .priority) (a .caller)) (k .before .thread-at .ensures)
+  reason :
+      let a = k .before .before .before .args in
+      k .priority-change .result ≡ priorityRefusal (threadOf (a .self) (a .t .0)) (a .priority) (a .caller)
+  reason = rw (← k .before .thread-at .ensures) (k .priority-change .ensures)
 
 cast-priority-changed : tie.Need-cast-priority-changed
 unfolding priorityRefusal
@@ -30,7 +31,8 @@ returns-2 : tie.Need-returns-2
 unfolding threadPriorityChange answerOf carried answered given withHeld withScheduler withSemaphore withClock
 returns-2 c =
     let z = sym (reason (c .before .before .before .before .before)) ∙ c .before .before .before .before .if1 .left in
-    rw (is-carried, ← c .before .before .before .before .before .before .thread-at .ensures) (c .carried .ensures ∙ rw (c .before .priority-changed .ensures, c .before .before .two-words .ensures))
+    rw (is-carried, ← c .before .before .before .before .before .before .thread-at .ensures)
+    (c .carried .ensures ∙ rw (c .before .priority-changed .ensures, c .before .before .two-words .ensures))
 
 pub thread-priority-change-spec : {M : Type 1} → statement M
 unfolding threadPriorityChange

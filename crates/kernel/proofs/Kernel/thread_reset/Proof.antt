@@ -1,6 +1,5 @@
-use mathlib.Core.Path.{_≡_, sym, ap, _∙_}
+use mathlib.Core.Path.{_≡_, sym, _∙_}
 use borrow.Author.Needs.{needs}
-use Rattle.scheduler.specs.declared.thread.Thread.{Thread}
 use Rattle.calls.specs.Refusals.{resetRefusal}
 use Rattle.kernel.specs.Tables.{threadOf, withScheduler, withHeld, given}
 use Rattle.kernel.specs.Answers.{answerOf, carried, answered}
@@ -13,13 +12,14 @@ use Rattle.kernel.proofs.Kernel.thread_reset.Tie as tie
 -- the reason that is found is that of the definition
 module _ (k : tie.After-reset) where
   reason : let a = k .before .before .before .args in k .reset .result ≡ resetRefusal (threadOf (a .self) (a .t .0)) (a .caller)
-  reason = let a = k .before .before .before .args in k .reset .ensures ∙ ap (λ (x : Thread). resetRefusal x (a .caller)) (k .before .thread-at .ensures)
+  reason = rw (← k .before .thread-at .ensures) (k .reset .ensures)
 
 returns-2 : tie.Need-returns-2
 unfolding threadReset given answerOf carried answered withHeld withScheduler
 returns-2 c =
     let z = sym (reason (c .before .before .before .before .before)) ∙ c .before .before .before .before .if1 .left in
-    rw (is-carried, ← c .before .before .before .before .before .before .thread-at .ensures) (c .held-carried .ensures ∙ rw (c .before .moved .ensures, c .before .before .of .ensures, c .before .before .before .in-state .ensures))
+    rw (is-carried, ← c .before .before .before .before .before .before .thread-at .ensures)
+    (c .held-carried .ensures ∙ rw (c .before .moved .ensures, c .before .before .of .ensures, c .before .before .before .in-state .ensures))
 
 pub thread-reset-spec : {M : Type 1} → statement M
 unfolding threadReset

@@ -15,14 +15,15 @@ use Rattle.kernel.proofs.Kernel.thread_resume.Tie as tie
 -- the reason that is found is that of the definition
 module _ (k : tie.After-resume) where
   reason : let a = k .before .before .before .args in k .resume .result ≡ resumeRefusal (threadOf (a .self) (a .t .0))
-  reason = k .resume .ensures ∙ ap resumeRefusal (k .before .thread-at .ensures)
+  reason = rw (← k .before .thread-at .ensures) (k .resume .ensures)
 
 returns-2 : tie.Need-returns-2
 unfolding threadResume lifted answerOf carried answered given withHeld withScheduler withSemaphore withClock
 returns-2 c =
     let a = c .before .before .before .before .before .before .before .before .args in
     let z = sym (reason (c .before .before .before .before .before)) ∙ c .before .before .before .before .if1 .left in
-    let y : threadOf (a .self) (a .t .0) .suspending ≡ true = ap (λ (x : Thread). x .suspending) (sym (c .before .before .before .before .before .before .thread-at .ensures)) ∙ c .before .before .before .if2 .taken in
+    let y : threadOf (a .self) (a .t .0) .suspending ≡ true =
+    ap (λ (x : Thread). x .suspending) (sym (c .before .before .before .before .before .before .thread-at .ensures)) ∙ c .before .before .before .if2 .taken in
     rw is-carried ((c .carried .ensures ∙ rw (c .before .with-thread .ensures, c .before .before .with-suspension .ensures, c .before .before .before .before .before .before .thread-at .ensures)) ∙ ap answerOf (sym (ap (λ (b : Bool). if b then lifted (a .self) (a .t .0) else resumed (a .self) (a .t .0)) y)))
 
 returns-3 : tie.Need-returns-3
@@ -30,7 +31,8 @@ unfolding threadResume resumed answerOf carried answered given withHeld withSche
 returns-3 c =
     let a = c .before .before .before .before .before .before .before .before .args in
     let z = sym (reason (c .before .before .before .before .before)) ∙ c .before .before .before .before .if1 .left in
-    let y : threadOf (a .self) (a .t .0) .suspending ≡ false = ap (λ (x : Thread). x .suspending) (sym (c .before .before .before .before .before .before .thread-at .ensures)) ∙ c .before .before .before .if2 .left in
+    let y : threadOf (a .self) (a .t .0) .suspending ≡ false =
+    ap (λ (x : Thread). x .suspending) (sym (c .before .before .before .before .before .before .thread-at .ensures)) ∙ c .before .before .before .if2 .left in
     rw is-carried ((c .carried2 .ensures ∙ rw (c .before .moved .ensures, c .before .before .in-state .ensures, c .before .before .before .before .before .before .thread-at .ensures)) ∙ ap answerOf (sym (ap (λ (b : Bool). if b then lifted (a .self) (a .t .0) else resumed (a .self) (a .t .0)) y)))
 
 pub thread-resume-spec : {M : Type 1} → statement M

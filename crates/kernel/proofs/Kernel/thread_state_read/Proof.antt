@@ -1,4 +1,4 @@
-use mathlib.Core.Path.{_≡_, sym, ap, _∙_}
+use mathlib.Core.Path.{_≡_, sym, _∙_}
 use borrow.Author.Needs.{needs}
 use Rattle.calls.specs.Refusals.{readRefusal}
 use Rattle.kernel.specs.Tables.{threadOf, heldAt, withScheduler, withHeld, withSemaphore, withClock, given}
@@ -12,13 +12,14 @@ use Rattle.kernel.proofs.Kernel.thread_state_read.Tie as tie
 -- the reason that is found is that of the definition
 module _ (k : tie.After-read) where
   reason : let a = k .before .before .before .args in k .read .result ≡ readRefusal (threadOf (a .self) (a .t .0))
-  reason = k .read .ensures ∙ ap readRefusal (k .before .thread-at .ensures)
+  reason = rw (← k .before .thread-at .ensures) (k .read .ensures)
 
 returns-2 : tie.Need-returns-2
 unfolding threadStateRead answerOf carried answered given withHeld withScheduler withSemaphore withClock heldAt
 returns-2 c =
     let z = sym (reason (c .before .before .before .before .before .before)) ∙ c .before .before .before .before .before .if1 .left in
-    rw (is-carried, ← c .before .before .before .before .before .before .before .thread-at .ensures) (c .carried .ensures ∙ rw (c .before .two-words .ensures, c .before .before .before .held-in .ensures))
+    rw (is-carried, ← c .before .before .before .before .before .before .before .thread-at .ensures)
+    (c .carried .ensures ∙ rw (c .before .two-words .ensures, c .before .before .before .held-in .ensures))
 
 pub thread-state-read-spec : {M : Type 1} → statement M
 unfolding threadStateRead

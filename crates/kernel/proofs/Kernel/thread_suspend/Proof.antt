@@ -1,4 +1,4 @@
-use mathlib.Core.Path.{_≡_, sym, ap, _∙_}
+use mathlib.Core.Path.{_≡_, sym, _∙_}
 use borrow.Author.Needs.{needs}
 use Rattle.calls.specs.Refusals.{suspendRefusal}
 use Rattle.kernel.specs.Tables.{threadOf, withScheduler, withHeld, withSemaphore, withClock, given}
@@ -12,25 +12,28 @@ use Rattle.kernel.proofs.Kernel.thread_suspend.Tie as tie
 -- the reason that is found is that of the definition
 module _ (k : tie.After-suspend) where
   reason : let a = k .before .before .before .args in k .suspend .result ≡ suspendRefusal (threadOf (a .self) (a .t .0))
-  reason = k .suspend .ensures ∙ ap suspendRefusal (k .before .thread-at .ensures)
+  reason = rw (← k .before .thread-at .ensures) (k .suspend .ensures)
 
 returns-2 : tie.Need-returns-2
 unfolding threadSuspend answerOf carried answered given withHeld withScheduler withSemaphore withClock
 returns-2 c =
     let z = sym (reason (c .before .before .before .before .before .before)) ∙ c .before .before .before .before .before .if1 .left in
-    rw (is-carried, ← c .before .before .before .before .before .before .before .thread-at .ensures, ← c .before .before .before .before .is-paused .ensures, c .before .before .before .if2 .taken) (c .carried .ensures ∙ rw (c .before .with-thread .ensures, c .before .before .with-suspension .ensures))
+    rw (is-carried, ← c .before .before .before .before .before .before .before .thread-at .ensures, ← c .before .before .before .before .is-paused .ensures, c .before .before .before .if2 .taken)
+    (c .carried .ensures ∙ rw (c .before .with-thread .ensures, c .before .before .with-suspension .ensures))
 
 returns-3 : tie.Need-returns-3
 unfolding threadSuspend answerOf carried answered given withHeld withScheduler withSemaphore withClock
 returns-3 c =
     let z = sym (reason (c .before .before .before .before .before .before .before .before)) ∙ c .before .before .before .before .before .before .before .if1 .left in
-    rw (is-carried, ← c .before .before .before .before .before .before .before .before .before .thread-at .ensures, ← c .before .before .before .before .before .before .is-paused .ensures, c .before .before .before .before .before .if2 .left, ← c .before .before .before .before .is-ready .ensures, c .before .before .before .if3 .taken) (c .carried2 .ensures ∙ rw (c .before .moved .ensures, c .before .before .in-state .ensures))
+    rw (is-carried, ← c .before .before .before .before .before .before .before .before .before .thread-at .ensures, ← c .before .before .before .before .before .before .is-paused .ensures, c .before .before .before .before .before .if2 .left, ← c .before .before .before .before .is-ready .ensures, c .before .before .before .if3 .taken)
+    (c .carried2 .ensures ∙ rw (c .before .moved .ensures, c .before .before .in-state .ensures))
 
 returns-4 : tie.Need-returns-4
 unfolding threadSuspend answerOf carried answered given withHeld withScheduler withSemaphore withClock
 returns-4 c =
     let z = sym (reason (c .before .before .before .before .before .before)) ∙ c .before .before .before .before .before .if1 .left in
-    rw (is-carried, ← c .before .before .before .before .before .before .before .thread-at .ensures, ← c .before .before .before .before .is-paused .ensures, c .before .before .before .if2 .left, ← c .before .before .is-ready .ensures, c .before .if3 .left) (c .carried3 .ensures)
+    rw (is-carried, ← c .before .before .before .before .before .before .before .thread-at .ensures, ← c .before .before .before .before .is-paused .ensures, c .before .before .before .if2 .left, ← c .before .before .is-ready .ensures, c .before .if3 .left)
+    (c .carried3 .ensures)
 
 pub thread-suspend-spec : {M : Type 1} → statement M
 unfolding threadSuspend

@@ -1,6 +1,5 @@
-use mathlib.Core.Path.{_≡_, sym, ap, _∙_}
+use mathlib.Core.Path.{_≡_, sym, _∙_}
 use borrow.Author.Needs.{needs}
-use Rattle.scheduler.specs.declared.thread.Thread.{Thread}
 use Rattle.calls.specs.Refusals.{terminateRefusal}
 use Rattle.kernel.specs.Tables.{threadOf, withScheduler, withHeld, given}
 use Rattle.kernel.specs.Answers.{answerOf, carried, answered}
@@ -13,7 +12,7 @@ use Rattle.kernel.proofs.Kernel.thread_terminate.Tie as tie
 -- the reason that is found is that of the definition
 module _ (k : tie.After-terminate) where
   reason : let a = k .before .before .before .args in k .terminate .result ≡ terminateRefusal (threadOf (a .self) (a .t .0)) (a .caller)
-  reason = let a = k .before .before .before .args in k .terminate .ensures ∙ ap (λ (x : Thread). terminateRefusal x (a .caller)) (k .before .thread-at .ensures)
+  reason = rw (← k .before .thread-at .ensures) (k .terminate .ensures)
 
 returns-2 : tie.Need-returns-2
 unfolding threadTerminate answerOf carried answered withScheduler
@@ -25,7 +24,8 @@ returns-3 : tie.Need-returns-3
 unfolding threadTerminate given answerOf carried answered withHeld withScheduler
 returns-3 c =
     let z = sym (reason (c .before .before .before .before .before .before .before .before)) ∙ c .before .before .before .before .before .before .before .if1 .left in
-    rw (is-carried, ← c .before .before .before .before .before .before .before .before .before .thread-at .ensures, c .before .before .before .before .if2 .left) (c .held-carried .ensures ∙ rw (c .before .moved .ensures, c .before .before .of .ensures, c .before .before .before .in-state .ensures))
+    rw (is-carried, ← c .before .before .before .before .before .before .before .before .before .thread-at .ensures, c .before .before .before .before .if2 .left)
+    (c .held-carried .ensures ∙ rw (c .before .moved .ensures, c .before .before .of .ensures, c .before .before .before .in-state .ensures))
 
 pub thread-terminate-spec : {M : Type 1} → statement M
 unfolding threadTerminate

@@ -1,4 +1,4 @@
-use mathlib.Core.Path.{_≡_, sym, ap, _∙_}
+use mathlib.Core.Path.{_≡_, sym, _∙_}
 use borrow.Author.Needs.{needs}
 use Rattle.calls.specs.Refusals.{abortRefusal}
 use Rattle.kernel.specs.Tables.{threadOf, withScheduler, withHeld}
@@ -13,7 +13,7 @@ use Rattle.kernel.proofs.Kernel.thread_wait_abort.Tie as tie
 -- the reason that is found is that of the definition
 module _ (k : tie.After-abort) where
   reason : let a = k .before .before .before .args in k .abort .result ≡ abortRefusal (threadOf (a .self) (a .t .0))
-  reason = k .abort .ensures ∙ ap abortRefusal (k .before .thread-at .ensures)
+  reason = rw (← k .before .thread-at .ensures) (k .abort .ensures)
 
 returns-2 : tie.Need-returns-2
 unfolding threadWaitAbort endWait answerOf carried answered withHeld withScheduler
