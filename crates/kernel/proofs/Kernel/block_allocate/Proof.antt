@@ -31,12 +31,13 @@ module _ (k : tie.After-allocate) where
 returns-2 : tie.Need-returns-2
 unfolding blockAllocate startWait answerOf carried answered withScheduler withHeld withPool poolAt
 returns-2 c =
-    let a = c .before .before .before .before .before .before .before .before .args in
-    let i = c .before .before .before .before .before .before .pool-in .ensures in
-    let z = sym (reason (c .before .before .before .before .before)) ∙ c .before .before .before .before .if1 .left in
+    let k = c .before .before .before .before in
+    let a = k .before .before .before .before .args in
+    let i = k .before .before .pool-in .ensures in
+    let z = sym (reason (k .before)) ∙ k .if1 .left in
     let t : c .before .before .has-free .result ≡ ltb 0 (poolAt (a .t1) (a .n .0) .free) =
     c .before .before .has-free .ensures ∙ ap (λ (x : Pool). ltb 0 (x .free)) i in
-    let l = held-sized (c .before .before .before .before .before .before .before .before) in
+    let l = held-sized (k .before .before .before .before) in
     let m : answered (c .before .if2 .self) (c .before .if2 .s) (c .before .if2 .status) (c .before .if2 .words) 0 ≡ answerOf (blockAllocate (a .t1) (a .caller) (a .n .0) (a .wait)) =
     ⊎-elim
     (λ w. rw (w .5, w .6, w .7, w .8, is-carried, ← t, w .0 .taken, w .4 .ensures, w .2 .ensures, w .1 .ensures ∙ ap nextBlock i, w .3 .ensures ∙ ap withoutNext i))

@@ -23,8 +23,9 @@ module _ (k : tie.After-pool-create) where
 returns-2 : tie.Need-returns-2
 unfolding poolCreate poolCreateRefusal answerOf carried answered withScheduler withPool poolAt
 returns-2 c =
-    let a = c .before .before .before .before .before .before .before .before .args in
-    let z = sym (reason (c .before .before .before .before .before)) ∙ c .before .before .before .before .if1 .left in
+    let k = c .before .before .before .before in
+    let a = k .before .before .before .before .args in
+    let z = sym (reason (k .before)) ∙ k .if1 .left in
     let s = unless-none (blockSizesb (a .block) (a .total)) 5 (omega arith) (first-none _ _ (second-none _ _ z)) in
     let x : c .before .before .of .result ≡ freshPool (a .block) (a .total) =
     c .before .before .of .ensures ∙ (λ j. freshPool (block-half (a .block) (a .total) s j) (a .total)) in

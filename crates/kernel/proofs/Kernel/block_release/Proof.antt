@@ -26,9 +26,10 @@ module _ (k : tie.After-release) where
 returns-2 : tie.Need-returns-2
 unfolding blockRelease endWait answerOf carried answered withHeld withScheduler withPool poolAt
 returns-2 c =
-    let a = c .before .before .before .before .before .before .before .before .before .before .args in
-    let i = c .before .before .before .before .before .before .before .before .pool-in .ensures in
-    let z = sym (reason (c .before .before .before .before .before .before .before)) ∙ c .before .before .before .before .before .before .if1 .left in
+    let k = c .before .before .before .before .before .before in
+    let a = k .before .before .before .before .args in
+    let i = k .before .before .pool-in .ensures in
+    let z = sym (reason (k .before)) ∙ k .if1 .left in
     let f : c .before .before .before .first-at .result .0 ≡ firstAt (a .t1 .scheduler) (poolPlace (a .n .0)) =
     c .before .before .before .first-at .ensures ∙ ap (firstAt (a .t1 .scheduler)) (c .before .before .before .before .place .ensures) in
     let m : answered (c .before .if2 .self) (c .before .if2 .s) success noWords (c .before .if2 .ended) ≡ answerOf (blockRelease (a .t1) (a .n .0) (a .block)) =

@@ -34,16 +34,17 @@ module _ (k : tie.After-flags-get) where
 returns-2 : tie.Need-returns-2
 unfolding groupGet startWait groupAt getRefusal answerOf carried answered withScheduler withHeld withGroup
 returns-2 c =
-    let a = c .before .before .before .before .before .before .before .before .before .args in
-    let i : c .before .before .before .before .before .before .before .group-in .result ≡ groupAt (a .t1) (a .n .0) =
-    c .before .before .before .before .before .before .before .group-in .ensures in
-    let z = sym (reason (c .before .before .before .before .before .before)) ∙ c .before .before .before .before .before .if1 .left in
+    let k = c .before .before .before .before .before in
+    let a = k .before .before .before .before .args in
+    let i : k .before .before .group-in .result ≡ groupAt (a .t1) (a .n .0) =
+    k .before .before .group-in .ensures in
+    let z = sym (reason (k .before)) ∙ k .if1 .left in
     let known = leb-true (a .option) 3 (unless-none (leb (a .option) 3) 8 (omega arith) (first-none _ _ (second-none _ _ z))) in
     let h = c .before .before .before .before .option-of .ensures in
     let o : c .before .before .before .before .option-of .result ≡ a .option = omega (arith, h, known) in
     let t : c .before .before .is-met .result ≡ metb (groupAt (a .t1) (a .n .0) .flags) (a .request) (a .option) =
     c .before .before .is-met .ensures ∙ (λ j. metb (i j .flags) (a .request) (o j)) in
-    let l = held-sized (c .before .before .before .before .before .before .before .before .before) in
+    let l = held-sized (k .before .before .before .before) in
     let m : answered (c .before .if2 .self) (c .before .if2 .s) (c .before .if2 .status) (c .before .if2 .words) 0 ≡ answerOf (groupGet (a .t1) (a .caller) (a .n .0) (a .request) (a .option) (a .wait)) =
     ⊎-elim
     (λ w. rw (w .6, w .7, w .8, w .9, is-carried, ← t, w .0 .taken, w .5 .ensures, w .4 .ensures, w .3 .ensures, w .2 .ensures, w .1 .ensures, o, i))

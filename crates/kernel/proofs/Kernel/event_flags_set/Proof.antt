@@ -21,20 +21,22 @@ module _ (k : tie.After-flags-set) where
 returns-2 : tie.Need-returns-2
 unfolding groupSet groupAt
 returns-2 c =
-    let a = c .before .before .before .before .before .before .before .args in
-    let i : c .before .before .before .before .before .group-in .result ≡ groupAt (a .self) (a .n .0) =
-    c .before .before .before .before .before .group-in .ensures in
-    let z = sym (reason (c .before .before .before .before)) ∙ c .before .before .before .if1 .left in
+    let k = c .before .before .before in
+    let a = k .before .before .before .before .args in
+    let i : k .before .before .group-in .result ≡ groupAt (a .self) (a .n .0) =
+    k .before .before .group-in .ensures in
+    let z = sym (reason (k .before)) ∙ k .if1 .left in
     rw (is-carried, eq-eqb (a .option) 0 (c .before .before .if2 .taken))
     (c .set-or .ensures ∙ ap (λ (g : Group). answerOf (setOr (a .self) (a .n .0) (bitOr (g .flags) (a .flags)))) i)
 
 returns-3 : tie.Need-returns-3
 unfolding groupSet groupAt setAnd answerOf carried answered withScheduler withGroup
 returns-3 c =
-    let a = c .before .before .before .before .before .before .before .before .before .before .args in
-    let i : c .before .before .before .before .before .before .before .before .group-in .result ≡ groupAt (a .self) (a .n .0) =
-    c .before .before .before .before .before .before .before .before .group-in .ensures in
-    let z = sym (reason (c .before .before .before .before .before .before .before)) ∙ c .before .before .before .before .before .before .if1 .left in
+    let k = c .before .before .before .before .before .before in
+    let a = k .before .before .before .before .args in
+    let i : k .before .before .group-in .result ≡ groupAt (a .self) (a .n .0) =
+    k .before .before .group-in .ensures in
+    let z = sym (reason (k .before)) ∙ k .if1 .left in
     rw (is-carried, ne-eqb (a .option) 0 (c .before .before .before .before .before .if2 .left))
     (c .carried .ensures ∙ rw (c .before .groups-with .ensures, c .before .before .of .ensures, i))
 

@@ -31,12 +31,13 @@ module _ (k : tie.After-queue-create) where
 returns-2 : tie.Need-returns-2
 unfolding queueCreate queueCreateRefusal answerOf carried answered withScheduler withQueue queueAt
 returns-2 c =
-    let a = c .before .before .before .before .before .before .before .before .before .args in
-    let z = sym (reason (c .before .before .before .before .before .before)) ∙ c .before .before .before .before .before .if1 .left in
+    let k = c .before .before .before .before .before in
+    let a = k .before .before .before .before .args in
+    let z = sym (reason (k .before)) ∙ k .if1 .left in
     let f = unless-none (sizesFitb (a .words) (a .storage)) 5 (omega arith) (first-none _ _ (second-none _ _ z)) in
     let x : c .before .before .before .of .result ≡ emptyQueue (a .words) (a .storage) =
     c .before .before .before .of .ensures ∙ (λ j. emptyQueue (words-byte (a .words) (a .storage) f j) (storage-byte (a .words) (a .storage) f j)) in
-    let l = queues-sized (c .before .before .before .before .before .before .before .before .before) in
+    let l = queues-sized (k .before .before .before .before) in
     let m : c .before .if2 .self ≡ withQueue (a .t1) (a .n .0) (c .before .before .before .of .result) =
     ⊎-elim (λ w. w .1) (λ w. w .1 ∙ sym (queue-out (a .t1) (a .n .0) (c .before .before .before .of .result) l (w .0 .left))) (c .before .if2 .came) in
     rw is-carried (c .carried .ensures ∙ rw (m, x))

@@ -17,7 +17,8 @@ module _ (k : tie.After-queue-delete) where
 returns-2 : tie.Need-returns-2
 unfolding queueDelete queueAt
 returns-2 c =
-    let z = sym (reason (c .before .before .before)) ∙ c .before .before .if1 .left in
+    let k = c .before .before in
+    let z = sym (reason (k .before)) ∙ k .if1 .left in
     rw is-carried (c .queue-ended .ensures ∙ rw (c .before .none .ensures))
 
 pub queue-delete-spec : {M : Type 1} → statement M

@@ -21,9 +21,10 @@ module _ (k : tie.After-queue) where
 returns-2 : tie.Need-returns-2
 unfolding queueFlush answerOf carried answered withScheduler queueAt
 returns-2 c =
-    let a = c .before .before .before .before .before .before .before .before .args in
-    let i = c .before .before .before .before .before .before .queue-in .ensures in
-    let z = sym (reason (c .before .before .before .before .before)) ∙ c .before .before .before .before .if1 .left in
+    let k = c .before .before .before .before in
+    let a = k .before .before .before .before .args in
+    let i = k .before .before .queue-in .ensures in
+    let z = sym (reason (k .before)) ∙ k .if1 .left in
     let t : emptyb (queueAt (a .self) (a .n .0)) ≡ true =
     sym (c .before .before .before .is-empty .ensures ∙ ap emptyb i) ∙ c .before .before .if2 .taken in
     rw (is-carried, t) (c .carried .ensures)
@@ -31,9 +32,10 @@ returns-2 c =
 returns-3 : tie.Need-returns-3
 unfolding queueFlush queueAt
 returns-3 c =
-    let a = c .before .before .before .before .before .before .before .before .args in
-    let i = c .before .before .before .before .before .before .queue-in .ensures in
-    let z = sym (reason (c .before .before .before .before .before)) ∙ c .before .before .before .before .if1 .left in
+    let k = c .before .before .before .before in
+    let a = k .before .before .before .before .args in
+    let i = k .before .before .queue-in .ensures in
+    let z = sym (reason (k .before)) ∙ k .if1 .left in
     let t : emptyb (queueAt (a .self) (a .n .0)) ≡ false =
     sym (c .before .before .before .is-empty .ensures ∙ ap emptyb i) ∙ c .before .before .if2 .left in
     rw (is-carried, t)

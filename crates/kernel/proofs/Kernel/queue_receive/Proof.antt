@@ -65,12 +65,13 @@ module _ (k : tie.After-receive) where
 returns-2 : tie.Need-returns-2
 unfolding queueReceive queueAt receiveFrom startWait heldAt answerOf carried answered withScheduler withHeld withQueue
 returns-2 c =
-    let a = c .before .before .before .before .before .before .before .before .args in
-    let q = c .before .before .before .before .before .before .queue-in .result in
-    let i = c .before .before .before .before .before .before .queue-in .ensures in
-    let z = sym (reason (c .before .before .before .before .before)) ∙ c .before .before .before .before .if1 .left in
-    let l = held-sized (c .before .before .before .before .before .before .before .before) in
-    let u = queues-sized (c .before .before .before .before .before .before .before .before) in
+    let e = c .before .before .before .before in
+    let a = e .before .before .before .before .args in
+    let q = e .before .before .queue-in .result in
+    let i = e .before .before .queue-in .ensures in
+    let z = sym (reason (e .before)) ∙ e .if1 .left in
+    let l = held-sized (e .before .before .before .before) in
+    let u = queues-sized (e .before .before .before .before) in
     let m : answered (c .before .if2 .self) (c .before .if2 .s) (c .before .if2 .status) (c .before .if2 .words) (c .before .if2 .ended) ≡ answerOf (receiveFrom (a .t1) (a .n .0) q (a .wait)) =
     ⊎-elim
     (λ w. rw (w .6, w .7, w .8, w .9, w .10, ← c .before .before .is-empty .ensures, w .0 .taken, w .3 .ensures, w .5 .ensures))

@@ -37,12 +37,13 @@ module _ (k : tie.After-send) where
 returns-2 : tie.Need-returns-2
 unfolding queueSend queueAt sendTo endWait startWait answerOf carried answered withScheduler withHeld withQueue
 returns-2 c =
-    let a = c .before .before .before .before .before .before .before .before .before .before .args in
-    let q = c .before .before .before .before .before .before .before .queue-in .result in
-    let i = c .before .before .before .before .before .before .before .queue-in .ensures in
-    let z = sym (reason (c .before .before .before .before .before .before)) ∙ c .before .before .before .before .before .if1 .left in
-    let l = held-sized (c .before .before .before .before .before .before .before .before .before .before) in
-    let u = queues-sized (c .before .before .before .before .before .before .before .before .before .before) in
+    let k = c .before .before .before .before .before in
+    let a = k .before .before .before .before .before .args in
+    let q = k .before .before .queue-in .result in
+    let i = k .before .before .queue-in .ensures in
+    let z = sym (reason (k .before)) ∙ k .if1 .left in
+    let l = held-sized (k .before .before .before .before .before) in
+    let u = queues-sized (k .before .before .before .before .before) in
     let m : answered (c .before .if2 .self) (c .before .if2 .s) (c .before .if2 .status) noWords (c .before .if2 .ended) ≡ answerOf (sendTo (a .t1) (a .n .0) q (a .wait) (a .front) (c .before .before .before .before .message-in .result)) =
     ⊎-elim
     (λ w. rw (w .7, w .8, w .9, w .10, ← c .before .before .has-room .ensures, w .0 .taken, ← w .2 .ensures ∙ ap (firstAt (a .t1 .scheduler)) (w .1 .ensures), lt-ltb (w .2 .result .0) 32 (w .4 .taken), w .6 .ensures, w .5 .ensures))

@@ -20,7 +20,8 @@ module _ (k : tie.After-semaphore-create) where
 returns-2 : tie.Need-returns-2
 unfolding semaphoreCreate answerOf carried answered given withHeld withScheduler withSemaphore withClock semaphoreAt
 returns-2 c =
-    let z = sym (reason (c .before .before .before .before .before)) ∙ c .before .before .before .before .if1 .left in
+    let k = c .before .before .before .before in
+    let z = sym (reason (k .before)) ∙ k .if1 .left in
     rw is-carried (c .carried .ensures ∙ rw (c .before .semaphores-with .ensures, c .before .before .counting .ensures))
 
 pub semaphore-create-spec : {M : Type 1} → statement M

@@ -31,16 +31,17 @@ module _ (k : tie.After-semaphore-get) where
 returns-2 : tie.Need-returns-2
 unfolding semaphoreGet startWait answerOf carried answered withScheduler withHeld withSemaphore semaphoreAt
 returns-2 c =
-    let a = c .before .before .before .before .before .before .before .before .args in
-    let x = c .before .before .before .before .before .before .semaphore-in .result in
-    let z = sym (reason (c .before .before .before .before .before)) ∙ c .before .before .before .before .if1 .left in
-    let l = held-sized (c .before .before .before .before .before .before .before .before) in
+    let k = c .before .before .before .before in
+    let a = k .before .before .before .before .args in
+    let x = k .before .before .semaphore-in .result in
+    let z = sym (reason (k .before)) ∙ k .if1 .left in
+    let l = held-sized (k .before .before .before .before) in
     let m : answered (c .before .if2 .self) (c .before .if2 .s) (c .before .if2 .status) noWords 0 ≡ answerOf (semaphoreGet (a .t1) (a .caller) (a .n .0) (a .wait)) =
     ⊎-elim
-    (λ w. rw (w .4, w .5, w .6, is-carried, ← c .before .before .before .before .before .before .semaphore-in .ensures, lt-ltb 0 (x .count) (w .0 .taken), w .3 .ensures, w .2 .ensures))
+    (λ w. rw (w .4, w .5, w .6, is-carried, ← k .before .before .semaphore-in .ensures, lt-ltb 0 (x .count) (w .0 .taken), w .3 .ensures, w .2 .ensures))
     (λ w. ⊎-elim
-    (λ v. rw (v .6, v .7, v .8, is-carried, ← c .before .before .before .before .before .before .semaphore-in .ensures, le-ltb 0 (x .count) (v .0 .left), v .3 .ensures, v .5 .ensures))
-    (λ v. rw (v .5 ∙ sym (held-out (a .t1) (a .t1 .scheduler .running .0) waiting l (v .4 .left)), v .6, v .7, is-carried, ← c .before .before .before .before .before .before .semaphore-in .ensures, le-ltb 0 (x .count) (v .0 .left), v .3 .ensures))
+    (λ v. rw (v .6, v .7, v .8, is-carried, ← k .before .before .semaphore-in .ensures, le-ltb 0 (x .count) (v .0 .left), v .3 .ensures, v .5 .ensures))
+    (λ v. rw (v .5 ∙ sym (held-out (a .t1) (a .t1 .scheduler .running .0) waiting l (v .4 .left)), v .6, v .7, is-carried, ← k .before .before .semaphore-in .ensures, le-ltb 0 (x .count) (v .0 .left), v .3 .ensures))
     w)
     (c .before .if2 .came) in
     c .carried .ensures ∙ m

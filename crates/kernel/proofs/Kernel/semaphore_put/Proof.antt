@@ -24,14 +24,15 @@ module _ (k : tie.After-semaphore) where
 returns-2 : tie.Need-returns-2
 unfolding semaphorePut putOn endWait oneMore answerOf carried answered withScheduler withHeld withSemaphore semaphoreAt
 returns-2 c =
-    let a = c .before .before .before .before .before .before .before .before .before .before .args in
-    let z = sym (reason (c .before .before .before .before .before .before .before)) ∙ c .before .before .before .before .before .before .if1 .left in
+    let k = c .before .before .before .before .before .before in
+    let a = k .before .before .before .before .args in
+    let z = sym (reason (k .before)) ∙ k .if1 .left in
     let f : c .before .before .before .first-at .result .0 ≡ firstAt (a .t1 .scheduler) (semaphorePlace (a .n .0)) =
     c .before .before .before .first-at .ensures ∙ ap (firstAt (a .t1 .scheduler)) (c .before .before .before .before .place .ensures) in
     let m : answered (c .before .if2 .self) (c .before .if2 .s) success noWords (c .before .if2 .ended) ≡ answerOf (semaphorePut (a .t1) (a .n .0)) =
     ⊎-elim
     (λ w. rw (w .3, w .4, w .5, is-carried, ← f, lt-ltb (c .before .before .before .first-at .result .0) 32 (w .0 .taken), w .2 .ensures, w .1 .ensures))
-    (λ w. rw (w .4, w .5, w .6, is-carried, ← f, le-ltb (c .before .before .before .first-at .result .0) 32 (w .0 .left), w .3 .ensures, w .2 .ensures, w .1 .ensures, c .before .before .before .before .before .before .before .before .semaphore-in .ensures))
+    (λ w. rw (w .4, w .5, w .6, is-carried, ← f, le-ltb (c .before .before .before .first-at .result .0) 32 (w .0 .left), w .3 .ensures, w .2 .ensures, w .1 .ensures, k .before .before .semaphore-in .ensures))
     (c .before .if2 .came) in
     c .carried .ensures ∙ m
 

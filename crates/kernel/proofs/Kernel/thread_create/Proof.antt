@@ -41,7 +41,8 @@ cast-created-2 c =
 returns-2 : tie.Need-returns-2
 unfolding threadCreate given answerOf carried answered withHeld withScheduler
 returns-2 c =
-    let z = sym (reason (c .before .before .before .before .before .before)) ∙ c .before .before .before .before .before .if1 .left in
+    let k = c .before .before .before .before .before in
+    let z = sym (reason (k .before)) ∙ k .if1 .left in
     rw is-carried (c .held-carried .ensures ∙ rw (c .before .moved .ensures, c .before .before .of .ensures, c .before .before .before .created .ensures, c .before .before .before .before .start-state .ensures))
 
 pub thread-create-spec : {M : Type 1} → statement M

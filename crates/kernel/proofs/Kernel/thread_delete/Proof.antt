@@ -17,7 +17,8 @@ module _ (k : tie.After-delete) where
 returns-2 : tie.Need-returns-2
 unfolding threadDelete given answerOf carried answered withHeld withScheduler
 returns-2 c =
-    let z = sym (reason (c .before .before .before .before .before)) ∙ c .before .before .before .before .if1 .left in
+    let k = c .before .before .before .before in
+    let z = sym (reason (k .before)) ∙ k .if1 .left in
     rw is-carried (c .held-carried .ensures ∙ rw (c .before .moved .ensures, c .before .before .uncreated .ensures, c .before .before .before .of .ensures))
 
 pub thread-delete-spec : {M : Type 1} → statement M

@@ -32,8 +32,9 @@ cast-preemption-changed c =
 returns-2 : tie.Need-returns-2
 unfolding threadPreemptionChange answerOf carried answered given withHeld withScheduler withSemaphore withClock
 returns-2 c =
-    let z = sym (reason (c .before .before .before .before .before)) ∙ c .before .before .before .before .if1 .left in
-    rw (is-carried, ← c .before .before .before .before .before .before .thread-at .ensures)
+    let k = c .before .before .before .before in
+    let z = sym (reason (k .before)) ∙ k .if1 .left in
+    rw (is-carried, ← k .before .before .thread-at .ensures)
     (c .carried .ensures ∙ rw (c .before .preemption-changed .ensures, c .before .before .two-words .ensures))
 
 pub thread-preemption-change-spec : {M : Type 1} → statement M

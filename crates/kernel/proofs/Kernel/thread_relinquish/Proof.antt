@@ -17,7 +17,8 @@ module _ (k : tie.After-thread-only) where
 returns-2 : tie.Need-returns-2
 unfolding threadRelinquish answerOf carried answered given withHeld withScheduler withSemaphore withClock
 returns-2 c =
-    let z = sym (reason (c .before .before .before .before)) ∙ c .before .before .before .if1 .left in
+    let k = c .before .before .before in
+    let z = sym (reason (k .before)) ∙ k .if1 .left in
     rw is-carried (rw (c .before .relinquished .ensures))
 
 pub thread-relinquish-spec : {M : Type 1} → statement M

@@ -17,8 +17,9 @@ module _ (k : tie.After-reset) where
 returns-2 : tie.Need-returns-2
 unfolding threadReset given answerOf carried answered withHeld withScheduler
 returns-2 c =
-    let z = sym (reason (c .before .before .before .before .before)) ∙ c .before .before .before .before .if1 .left in
-    rw (is-carried, ← c .before .before .before .before .before .before .thread-at .ensures)
+    let k = c .before .before .before .before in
+    let z = sym (reason (k .before)) ∙ k .if1 .left in
+    rw (is-carried, ← k .before .before .thread-at .ensures)
     (c .held-carried .ensures ∙ rw (c .before .moved .ensures, c .before .before .of .ensures, c .before .before .before .in-state .ensures))
 
 pub thread-reset-spec : {M : Type 1} → statement M

@@ -1,5 +1,5 @@
 use mathlib.Core.Path.{_≡_, sym, ap, _∙_}
-use mathlib.Core.Bool.{Bool, true, false}
+use mathlib.Core.Bool.{Bool}
 use borrow.Author.Needs.{needs}
 use Rattle.lines.specs.Logic.{if_then_else_}
 use Rattle.scheduler.specs.declared.thread.Thread.{Thread}
@@ -20,20 +20,24 @@ module _ (k : tie.After-resume) where
 returns-2 : tie.Need-returns-2
 unfolding threadResume lifted answerOf carried answered given withHeld withScheduler withSemaphore withClock
 returns-2 c =
-    let a = c .before .before .before .before .before .before .before .before .args in
-    let z = sym (reason (c .before .before .before .before .before)) ∙ c .before .before .before .before .if1 .left in
-    let y : threadOf (a .self) (a .t .0) .suspending ≡ true =
-    ap (λ (x : Thread). x .suspending) (sym (c .before .before .before .before .before .before .thread-at .ensures)) ∙ c .before .before .before .if2 .taken in
-    rw is-carried ((c .carried .ensures ∙ rw (c .before .with-thread .ensures, c .before .before .with-suspension .ensures, c .before .before .before .before .before .before .thread-at .ensures)) ∙ ap answerOf (sym (ap (λ (b : Bool). if b then lifted (a .self) (a .t .0) else resumed (a .self) (a .t .0)) y)))
+    let k = c .before .before .before .before in
+    let a = k .before .before .before .before .args in
+    let r = k .before .before .thread-at .ensures in
+    let z = sym (reason (k .before)) ∙ k .if1 .left in
+    let y = sym (ap (λ (x : Thread). x .suspending) r) ∙ c .before .before .before .if2 .taken in
+    let e = ap (λ (b : Bool). if b then lifted (a .self) (a .t .0) else resumed (a .self) (a .t .0)) y in
+    rw is-carried ((c .carried .ensures ∙ rw (c .before .with-thread .ensures, c .before .before .with-suspension .ensures, r)) ∙ ap answerOf (sym e))
 
 returns-3 : tie.Need-returns-3
 unfolding threadResume resumed answerOf carried answered given withHeld withScheduler withSemaphore withClock
 returns-3 c =
-    let a = c .before .before .before .before .before .before .before .before .args in
-    let z = sym (reason (c .before .before .before .before .before)) ∙ c .before .before .before .before .if1 .left in
-    let y : threadOf (a .self) (a .t .0) .suspending ≡ false =
-    ap (λ (x : Thread). x .suspending) (sym (c .before .before .before .before .before .before .thread-at .ensures)) ∙ c .before .before .before .if2 .left in
-    rw is-carried ((c .carried2 .ensures ∙ rw (c .before .moved .ensures, c .before .before .in-state .ensures, c .before .before .before .before .before .before .thread-at .ensures)) ∙ ap answerOf (sym (ap (λ (b : Bool). if b then lifted (a .self) (a .t .0) else resumed (a .self) (a .t .0)) y)))
+    let k = c .before .before .before .before in
+    let a = k .before .before .before .before .args in
+    let r = k .before .before .thread-at .ensures in
+    let z = sym (reason (k .before)) ∙ k .if1 .left in
+    let y = sym (ap (λ (x : Thread). x .suspending) r) ∙ c .before .before .before .if2 .left in
+    let e = ap (λ (b : Bool). if b then lifted (a .self) (a .t .0) else resumed (a .self) (a .t .0)) y in
+    rw is-carried ((c .carried2 .ensures ∙ rw (c .before .moved .ensures, c .before .before .in-state .ensures, r)) ∙ ap answerOf (sym e))
 
 pub thread-resume-spec : {M : Type 1} → statement M
 unfolding threadResume

@@ -23,8 +23,9 @@ module _ (k : tie.After-thread-only) where
 returns-2 : tie.Need-returns-2
 unfolding threadSleep startWait answerOf carried answered withScheduler withHeld
 returns-2 c =
-    let a = c .before .before .before .before .before .args in
-    let z = sym (reason (c .before .before .before .before)) ∙ c .before .before .before .if1 .left in
+    let k = c .before .before .before in
+    let a = k .before .before .args in
+    let z = sym (reason (k .before)) ∙ k .if1 .left in
     let l : length (a .t1 .held) ≡ 32 = search length-mapped in
     let m : answered (c .before .if2 .self) (c .before .if2 .s) (c .before .if2 .status) noWords 0 ≡ answerOf (threadSleep (a .t1) (a .caller) (a .ticks)) =
     ⊎-elim

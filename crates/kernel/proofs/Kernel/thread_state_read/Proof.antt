@@ -17,8 +17,9 @@ module _ (k : tie.After-read) where
 returns-2 : tie.Need-returns-2
 unfolding threadStateRead answerOf carried answered given withHeld withScheduler withSemaphore withClock heldAt
 returns-2 c =
-    let z = sym (reason (c .before .before .before .before .before .before)) ∙ c .before .before .before .before .before .if1 .left in
-    rw (is-carried, ← c .before .before .before .before .before .before .before .thread-at .ensures)
+    let k = c .before .before .before .before .before in
+    let z = sym (reason (k .before)) ∙ k .if1 .left in
+    rw (is-carried, ← k .before .before .thread-at .ensures)
     (c .carried .ensures ∙ rw (c .before .two-words .ensures, c .before .before .before .held-in .ensures))
 
 pub thread-state-read-spec : {M : Type 1} → statement M

@@ -17,22 +17,25 @@ module _ (k : tie.After-suspend) where
 returns-2 : tie.Need-returns-2
 unfolding threadSuspend answerOf carried answered given withHeld withScheduler withSemaphore withClock
 returns-2 c =
-    let z = sym (reason (c .before .before .before .before .before .before)) ∙ c .before .before .before .before .before .if1 .left in
-    rw (is-carried, ← c .before .before .before .before .before .before .before .thread-at .ensures, ← c .before .before .before .before .is-paused .ensures, c .before .before .before .if2 .taken)
+    let k = c .before .before .before .before .before in
+    let z = sym (reason (k .before)) ∙ k .if1 .left in
+    rw (is-carried, ← k .before .before .thread-at .ensures, ← c .before .before .before .before .is-paused .ensures, c .before .before .before .if2 .taken)
     (c .carried .ensures ∙ rw (c .before .with-thread .ensures, c .before .before .with-suspension .ensures))
 
 returns-3 : tie.Need-returns-3
 unfolding threadSuspend answerOf carried answered given withHeld withScheduler withSemaphore withClock
 returns-3 c =
-    let z = sym (reason (c .before .before .before .before .before .before .before .before)) ∙ c .before .before .before .before .before .before .before .if1 .left in
-    rw (is-carried, ← c .before .before .before .before .before .before .before .before .before .thread-at .ensures, ← c .before .before .before .before .before .before .is-paused .ensures, c .before .before .before .before .before .if2 .left, ← c .before .before .before .before .is-ready .ensures, c .before .before .before .if3 .taken)
+    let k = c .before .before .before .before .before .before .before in
+    let z = sym (reason (k .before)) ∙ k .if1 .left in
+    rw (is-carried, ← k .before .before .thread-at .ensures, ← c .before .before .before .before .before .before .is-paused .ensures, c .before .before .before .before .before .if2 .left, ← c .before .before .before .before .is-ready .ensures, c .before .before .before .if3 .taken)
     (c .carried2 .ensures ∙ rw (c .before .moved .ensures, c .before .before .in-state .ensures))
 
 returns-4 : tie.Need-returns-4
 unfolding threadSuspend answerOf carried answered given withHeld withScheduler withSemaphore withClock
 returns-4 c =
-    let z = sym (reason (c .before .before .before .before .before .before)) ∙ c .before .before .before .before .before .if1 .left in
-    rw (is-carried, ← c .before .before .before .before .before .before .before .thread-at .ensures, ← c .before .before .before .before .is-paused .ensures, c .before .before .before .if2 .left, ← c .before .before .is-ready .ensures, c .before .if3 .left)
+    let k = c .before .before .before .before .before in
+    let z = sym (reason (k .before)) ∙ k .if1 .left in
+    rw (is-carried, ← k .before .before .thread-at .ensures, ← c .before .before .before .before .is-paused .ensures, c .before .before .before .if2 .left, ← c .before .before .is-ready .ensures, c .before .if3 .left)
     (c .carried3 .ensures)
 
 pub thread-suspend-spec : {M : Type 1} → statement M

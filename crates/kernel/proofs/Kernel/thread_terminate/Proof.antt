@@ -17,14 +17,16 @@ module _ (k : tie.After-terminate) where
 returns-2 : tie.Need-returns-2
 unfolding threadTerminate answerOf carried answered withScheduler
 returns-2 c =
-    let z = sym (reason (c .before .before .before .before .before)) ∙ c .before .before .before .before .if1 .left in
-    rw (is-carried, ← c .before .before .before .before .before .before .thread-at .ensures, c .before .if2 .taken) (c .carried .ensures)
+    let k = c .before .before .before .before in
+    let z = sym (reason (k .before)) ∙ k .if1 .left in
+    rw (is-carried, ← k .before .before .thread-at .ensures, c .before .if2 .taken) (c .carried .ensures)
 
 returns-3 : tie.Need-returns-3
 unfolding threadTerminate given answerOf carried answered withHeld withScheduler
 returns-3 c =
-    let z = sym (reason (c .before .before .before .before .before .before .before .before)) ∙ c .before .before .before .before .before .before .before .if1 .left in
-    rw (is-carried, ← c .before .before .before .before .before .before .before .before .before .thread-at .ensures, c .before .before .before .before .if2 .left)
+    let k = c .before .before .before .before .before .before .before in
+    let z = sym (reason (k .before)) ∙ k .if1 .left in
+    rw (is-carried, ← k .before .before .thread-at .ensures, c .before .before .before .before .if2 .left)
     (c .held-carried .ensures ∙ rw (c .before .moved .ensures, c .before .before .of .ensures, c .before .before .before .in-state .ensures))
 
 pub thread-terminate-spec : {M : Type 1} → statement M

@@ -18,7 +18,8 @@ module _ (k : tie.After-abort) where
 returns-2 : tie.Need-returns-2
 unfolding threadWaitAbort endWait answerOf carried answered withHeld withScheduler
 returns-2 c =
-    let z = sym (reason (c .before .before .before .before)) ∙ c .before .before .before .if1 .left in
+    let k = c .before .before .before in
+    let z = sym (reason (k .before)) ∙ k .if1 .left in
     rw is-carried (c .held-carried .ensures ∙ rw (c .before .woken .ensures, c .before .before .of .ensures))
 
 pub thread-wait-abort-spec : {M : Type 1} → statement M

@@ -17,7 +17,8 @@ module _ (k : tie.After-read) where
 returns-2 : tie.Need-returns-2
 unfolding threadWordsRead answerOf carried answered given withHeld withScheduler withSemaphore withClock heldAt
 returns-2 c =
-    let z = sym (reason (c .before .before .before .before .before)) ∙ c .before .before .before .before .if1 .left in
+    let k = c .before .before .before .before in
+    let z = sym (reason (k .before)) ∙ k .if1 .left in
     rw is-carried (c .carried .ensures ∙ rw (c .before .before .held-in .ensures))
 
 pub thread-words-read-spec : {M : Type 1} → statement M
