@@ -11,7 +11,7 @@ use Rattle.calls.specs.Refusals.{releaseRefusal}
 use Rattle.kernel.specs.Tables.{poolAt, withScheduler, withHeld, withPool}
 use Rattle.kernel.specs.Answers.{answerOf, carried, answered}
 use Rattle.kernel.specs.Waits.{endWait}
-use Rattle.kernel.specs.Pools.{poolPlace, blockRelease}
+use Rattle.kernel.specs.Pools.{blockRelease}
 use Rattle.kernel.proofs.Laws.Answers.{is-carried}
 use Rattle.kernel.proofs.Laws.Arms.{refused-by}
 use Rattle.kernel.proofs.Kernel.block_release.Statement.{statement}
@@ -30,8 +30,7 @@ returns-2 c =
     let a = k .before .before .before .before .args in
     let i = k .before .before .pool-in .ensures in
     let z = sym (reason (k .before)) ∙ k .if1 .left in
-    let f : c .before .before .before .first-at .result .0 ≡ firstAt (a .t1 .scheduler) (poolPlace (a .n .0)) =
-    c .before .before .before .first-at .ensures ∙ ap (firstAt (a .t1 .scheduler)) (c .before .before .before .before .place .ensures) in
+    let f = c .before .before .before .first-at .ensures ∙ ap (firstAt (a .t1 .scheduler)) (c .before .before .before .before .place .ensures) in
     let m : answered (c .before .if2 .self) (c .before .if2 .s) success noWords (c .before .if2 .ended) ≡ answerOf (blockRelease (a .t1) (a .n .0) (a .block)) =
     ⊎-elim
     (λ w. rw (w .4, w .5, w .6, is-carried, ← f, lt-ltb (c .before .before .before .first-at .result .0) 32 (w .0 .taken), w .3 .ensures, w .2 .ensures, w .1 .ensures))

@@ -1,6 +1,5 @@
 use mathlib.Core.Path.{_≡_, sym, ap, _∙_}
 use borrow.Author.Needs.{needs}
-use Rattle.lines.specs.Lines.{members}
 use Rattle.scheduler.specs.Orders.{lineAt}
 use Rattle.objects.specs.Groups.{noGroup}
 use Rattle.calls.specs.Held.{noWords}
@@ -28,8 +27,7 @@ returns-2 c =
     let a = h .before .before .before .before .args in
     let z = sym (reason (h .before)) ∙ h .if1 .left in
     let line = lineAt (a .self .scheduler) (groupPlace (a .n .0)) in
-    let m : members (c .before .before .before .line-at .result) ≡ line =
-    c .before .before .before .line-at .ensures .1 ∙ ap (lineAt (a .self .scheduler)) (c .before .before .before .before .place .ensures) in
+    let m = c .before .before .before .line-at .ensures .1 ∙ ap (lineAt (a .self .scheduler)) (c .before .before .before .before .place .ensures) in
     rw is-carried (c .ended-each .ensures ∙ rw (m, c .before .groups-with .ensures, c .before .before .none .ensures) (ap (λ (k : Kernel). answerOf (carried k 0 noWords line)) (each-group (a .self) (a .n .0) noGroup 1 noWords line)))
 
 pub event-flags-delete-spec : {M : Type 1} → statement M

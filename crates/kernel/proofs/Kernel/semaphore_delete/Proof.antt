@@ -1,6 +1,5 @@
 use mathlib.Core.Path.{_≡_, sym, ap, _∙_}
 use borrow.Author.Needs.{needs}
-use Rattle.lines.specs.Lines.{members}
 use Rattle.scheduler.specs.Orders.{lineAt}
 use Rattle.calls.specs.Held.{noWords}
 use Rattle.calls.specs.Refusals.{semaphoreDeleteRefusal}
@@ -29,8 +28,7 @@ returns-2 c =
     let h = c .before .before .before .before .before .before in
     let a = h .before .before .before .before .args in
     let z = sym (reason (h .before)) ∙ h .if1 .left in
-    let m : members (c .before .before .before .line-at .result) ≡ lineAt (a .self .scheduler) (semaphorePlace (a .n .0)) =
-    c .before .before .before .line-at .ensures .1 ∙ ap (lineAt (a .self .scheduler)) (c .before .before .before .before .place .ensures) in
+    let m = c .before .before .before .line-at .ensures .1 ∙ ap (lineAt (a .self .scheduler)) (c .before .before .before .before .place .ensures) in
     let p = lineAt (a .self .scheduler) (semaphorePlace (a .n .0)) in
     rw is-carried (c .ended-each .ensures ∙ rw (m, c .before .semaphores-with .ensures, c .before .before .none .ensures) (ap (λ (k : Kernel). answerOf (carried k 0 noWords p)) (each-semaphore (a .self) (a .n .0) noSemaphore 1 noWords p)))
 

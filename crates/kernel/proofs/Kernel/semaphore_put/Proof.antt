@@ -9,7 +9,7 @@ use Rattle.calls.specs.Refusals.{semaphoreRefusal}
 use Rattle.kernel.specs.Tables.{semaphoreAt, withScheduler, withHeld, withSemaphore}
 use Rattle.kernel.specs.Answers.{answerOf, carried, answered}
 use Rattle.kernel.specs.Waits.{endWait, oneMore}
-use Rattle.kernel.specs.Semaphores.{semaphorePlace, putOn, semaphorePut}
+use Rattle.kernel.specs.Semaphores.{putOn, semaphorePut}
 use Rattle.kernel.proofs.Laws.Answers.{is-carried}
 use Rattle.kernel.proofs.Laws.Arms.{refused-by}
 use Rattle.kernel.proofs.Kernel.semaphore_put.Statement.{statement}
@@ -27,8 +27,7 @@ returns-2 c =
     let k = c .before .before .before .before .before .before in
     let a = k .before .before .before .before .args in
     let z = sym (reason (k .before)) ∙ k .if1 .left in
-    let f : c .before .before .before .first-at .result .0 ≡ firstAt (a .t1 .scheduler) (semaphorePlace (a .n .0)) =
-    c .before .before .before .first-at .ensures ∙ ap (firstAt (a .t1 .scheduler)) (c .before .before .before .before .place .ensures) in
+    let f = c .before .before .before .first-at .ensures ∙ ap (firstAt (a .t1 .scheduler)) (c .before .before .before .before .place .ensures) in
     let m : answered (c .before .if2 .self) (c .before .if2 .s) success noWords (c .before .if2 .ended) ≡ answerOf (semaphorePut (a .t1) (a .n .0)) =
     ⊎-elim
     (λ w. rw (w .3, w .4, w .5, is-carried, ← f, lt-ltb (c .before .before .before .first-at .result .0) 32 (w .0 .taken), w .2 .ensures, w .1 .ensures))

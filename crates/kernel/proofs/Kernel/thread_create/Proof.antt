@@ -1,10 +1,9 @@
 use mathlib.Core.Path.{_≡_, sym, _∙_}
-use mathlib.Core.Bool.{_&&_, not}
+use Prim.Native.Nat.{_<_, _≤_}
 use native.Mathlib.Omega.{arith}
 use borrow.Author.Needs.{needs}
 use borrow.Author.Tests.{ltb-true, leb-true}
-use lib.Dec.{ltb, leb}
-use Rattle.calls.specs.Refusals.{unless, createRefusal}
+use Rattle.calls.specs.Refusals.{createRefusal}
 use Rattle.kernel.specs.Tables.{threadOf, withScheduler, withHeld, given}
 use Rattle.kernel.specs.Answers.{answerOf, carried, answered}
 use Rattle.kernel.specs.Threads.{threadCreate}
@@ -20,23 +19,18 @@ module _ (k : tie.After-create) where
       k .create .result ≡ createRefusal (a .t .0) (threadOf (a .self) (a .t .0)) (a .priority) (a .threshold) (a .start) (a .caller)
   reason = rw (← k .before .thread-at .ensures) (k .create .ensures)
 
-cast-created : tie.Need-cast-created
-unfolding createRefusal
-cast-created c =
-    let a = c .before .before .before .before .before .args in
-    let w = second-none (unless (ltb (a .t .0) 32 && not (threadOf (a .self) (a .t .0) .created)) 14) _ (sym (reason (c .before .before)) ∙ c .before .if1 .left) in
-    let l = ltb-true (a .priority) 32 (unless-none (ltb (a .priority) 32) 15 (omega arith) (first-none (unless (ltb (a .priority) 32) 15) _ w)) in
-    omega (arith, l)
+-- no reason is found: the priority and the threshold are in range
+module _ (k : tie.Else1) where
+  abbrev start : tie.Start
+  start = k .before .before .before .before
 
-cast-created-2 : tie.Need-cast-created-2
-unfolding createRefusal
-cast-created-2 c =
-    let a = c .before .before .before .before .before .args in
-    let w = second-none (unless (ltb (a .t .0) 32 && not (threadOf (a .self) (a .t .0) .created)) 14) _ (sym (reason (c .before .before)) ∙ c .before .if1 .left) in
-    let l = ltb-true (a .priority) 32 (unless-none (ltb (a .priority) 32) 15 (omega arith) (first-none (unless (ltb (a .priority) 32) 15) _ w)) in
-    let v = second-none (unless (ltb (a .priority) 32) 15) _ w in
-    let m = leb-true (a .threshold) (a .priority) (unless-none (leb (a .threshold) (a .priority)) 24 (omega arith) (first-none (unless (leb (a .threshold) (a .priority)) 24) _ v)) in
-    omega (arith, l, m)
+  low : start .args .priority < 32
+  unfolding createRefusal
+  low = ltb-true _ 32 (unless-none _ 15 (omega arith) (first-none _ _ (second-none _ _ (sym (reason (k .before)) ∙ k .if1 .left))))
+
+  ordered : start .args .threshold ≤ start .args .priority
+  unfolding createRefusal
+  ordered = leb-true _ _ (unless-none _ 24 (omega arith) (first-none _ _ (second-none _ _ (second-none _ _ (sym (reason (k .before)) ∙ k .if1 .left)))))
 
 returns-2 : tie.Need-returns-2
 unfolding threadCreate given answerOf carried answered withHeld withScheduler
@@ -53,7 +47,7 @@ thread-create-spec =
     (λ c κs. search needs) (λ c κs. search needs) (λ c κs. search needs)
     (λ c. refused-by _ _ (c .refused .ensures) (reason (c .before .before)) (c .before .if1 .taken))
     (λ c κs. search needs)
-    cast-created
-    cast-created-2
+    (λ c. omega (arith, low (c .before)))
+    (λ c. omega (arith, low (c .before), ordered (c .before)))
     (λ c κs. search needs) (λ c κs. search needs) (λ c κs. search needs) (λ c κs. search needs)
     returns-2)

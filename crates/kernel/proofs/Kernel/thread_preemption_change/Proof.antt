@@ -1,10 +1,9 @@
 use mathlib.Core.Path.{_≡_, sym, ap, _∙_}
 use native.Mathlib.Omega.{arith}
 use borrow.Author.Needs.{needs}
-use lib.Dec.{leb}
 use borrow.Author.Tests.{leb-true}
 use Rattle.scheduler.specs.declared.thread.Thread.{Thread}
-use Rattle.calls.specs.Refusals.{unless, preemptionRefusal}
+use Rattle.calls.specs.Refusals.{preemptionRefusal}
 use Rattle.kernel.specs.Tables.{threadOf, withScheduler, withHeld, withSemaphore, withClock, given}
 use Rattle.kernel.specs.Answers.{answerOf, carried, answered}
 use Rattle.kernel.specs.Threads.{threadPreemptionChange}
@@ -23,10 +22,10 @@ module _ (k : tie.After-preemption-change) where
 cast-preemption-changed : tie.Need-cast-preemption-changed
 unfolding preemptionRefusal
 cast-preemption-changed c =
-    let a = c .before .before .before .before .before .before .args in
-    let w = second-none (unless (threadOf (a .self) (a .t .0) .created) 14) _ (sym (reason (c .before .before .before)) ∙ c .before .before .if1 .left) in
-    let m = leb-true (a .threshold) (threadOf (a .self) (a .t .0) .priority) (unless-none (leb (a .threshold) (threadOf (a .self) (a .t .0) .priority)) 24 (omega arith) (first-none (unless (leb (a .threshold) (threadOf (a .self) (a .t .0) .priority)) 24) _ w)) in
-    let q = ap (λ (x : Thread). x .priority) (c .before .before .before .before .thread-at .ensures) in
+    let k = c .before .before in
+    let a = k .before .before .before .before .args in
+    let m = leb-true (a .threshold) (threadOf (a .self) (a .t .0) .priority) (unless-none _ 24 (omega arith) (first-none _ _ (second-none _ _ (sym (reason (k .before)) ∙ k .if1 .left)))) in
+    let q = ap (λ (x : Thread). x .priority) (k .before .before .thread-at .ensures) in
     omega (arith, m, q, c .before .struct-known .given .1 .1 .0)
 
 returns-2 : tie.Need-returns-2

@@ -2,8 +2,7 @@ use mathlib.Core.Path.{_≡_, sym, _∙_}
 use native.Mathlib.Omega.{arith}
 use borrow.Author.Needs.{needs}
 use borrow.Author.Tests.{ltb-true}
-use lib.Dec.{ltb}
-use Rattle.calls.specs.Refusals.{unless, priorityRefusal}
+use Rattle.calls.specs.Refusals.{priorityRefusal}
 use Rattle.kernel.specs.Tables.{threadOf, withScheduler, withHeld, withSemaphore, withClock, given}
 use Rattle.kernel.specs.Answers.{answerOf, carried, answered}
 use Rattle.kernel.specs.Threads.{threadPriorityChange}
@@ -22,9 +21,9 @@ module _ (k : tie.After-priority-change) where
 cast-priority-changed : tie.Need-cast-priority-changed
 unfolding priorityRefusal
 cast-priority-changed c =
-    let a = c .before .before .before .before .before .before .args in
-    let w = second-none (unless (threadOf (a .self) (a .t .0) .created) 14) _ (sym (reason (c .before .before .before)) ∙ c .before .before .if1 .left) in
-    let l = ltb-true (a .priority) 32 (unless-none (ltb (a .priority) 32) 15 (omega arith) (first-none (unless (ltb (a .priority) 32) 15) _ w)) in
+    let k = c .before .before in
+    let a = k .before .before .before .before .args in
+    let l = ltb-true (a .priority) 32 (unless-none _ 15 (omega arith) (first-none _ _ (second-none _ _ (sym (reason (k .before)) ∙ k .if1 .left)))) in
     omega (arith, l)
 
 returns-2 : tie.Need-returns-2
