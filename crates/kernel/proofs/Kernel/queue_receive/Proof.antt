@@ -4,10 +4,8 @@ use mathlib.Core.Logic.{⊎-elim}
 use mathlib.Core.Bool.{false}
 use mathlib.Core.List.{List}
 use Prim.Native.Nat.{ℕ, _<_, _≤_}
-use native.Mathlib.Omega.{arith}
 use lib.ListN.{length}
 use borrow.Author.Tests.{lt-ltb, le-ltb}
-use Rattle.lines.proofs.Laws.Lists.{getD-any}
 use Rattle.scheduler.specs.declared.Scheduler.{Scheduler}
 use Rattle.scheduler.specs.Orders.{firstAt, woken}
 use Rattle.scheduler.proofs.Laws.Threads.{length-mapped}
@@ -24,6 +22,7 @@ use Rattle.kernel.specs.Waits.{endWait, startWait}
 use Rattle.kernel.specs.Queues.{queuePlace, receivePast, receiveFrom, queueReceive}
 use Rattle.kernel.proofs.Laws.Answers.{is-carried, held-out, queue-out}
 use Rattle.kernel.proofs.Laws.Arms.{refused-by}
+use Rattle.kernel.proofs.Laws.Reads.{read-inside}
 use Rattle.kernel.proofs.Kernel.queue_receive.Statement.{statement}
 use Rattle.kernel.proofs.Kernel.queue_receive.Tie as tie
 
@@ -62,53 +61,72 @@ module _ (k : tie.After-receive) where
   unfolding queueAt
   reason = rw (← k .before .queue-in .ensures) (k .receive .ensures)
 
+-- a queue with messages: from the sender first in line, or the oldest
+module _ (k : tie.Joined4) where
+  abbrev first : tie.After-first-at
+  first = k .before .before
+
+  abbrev tested : tie.After-is-empty
+  tested = first .before .before .before
+
+  abbrev start : tie.Start
+  start = tested .before .before .before .before .before .before
+
+  received :
+      let a = start .args in let y = k .if4 in let q = tested .before .before .before .before .queue-in .result in
+      answered (withQueue (y .self) (a .n .0) (y .left)) (y .s) success (y .words) (y .ended) ≡ answerOf (receiveFrom (a .t1) (a .n .0) q (a .wait))
+  unfolding heldAt withHeld
+  received =
+      let a = start .args in
+      let y = k .if4 in
+      let f = first .first-at .ensures ∙ ap (firstAt (a .t1 .scheduler)) (first .before .place .ensures) in
+      let n = sym (tested .is-empty .ensures) ∙ first .before .before .if2 .left in
+      ⊎-elim
+      (λ p.
+      let h = read-inside (a .t1 .held) _ _ noHeld (p .0 .taken) (held-sized start) in
+      let e = p .7 ∙ ap (withHeld (a .t1) _) (p .5 .ensures) in
+      from-sender (a .t1) (y .self) (a .n .0) (a .wait) _ (y .left) (y .s) (y .words) (y .ended) _ _ f n (p .0 .taken) h e (p .11 ∙ p .4 .ensures) (p .8 ∙ p .6 .ensures) (p .10 ∙ p .3 .ensures) (p .9))
+      (λ p. from-store (a .t1) (y .self) (a .n .0) (a .wait) _ (y .left) (y .s) (y .words) (y .ended) _ f n (p .0 .left) (p .3) (p .7 ∙ p .2 .ensures) (p .4) (p .6 ∙ p .1 .ensures) (p .5))
+      (y .came)
+
+  abbrev sizeOf : Kernel → ℕ
+  sizeOf t = length (t .queues)
+
+  -- the queues keep their size
+  kept-size : length (k .if4 .self .queues) ≡ 8
+  kept-size =
+      ⊎-elim (λ p. ap sizeOf (p .7) ∙ queues-sized start) (λ p. ap sizeOf (p .3) ∙ queues-sized start) (k .if4 .came)
+
 returns-2 : tie.Need-returns-2
-unfolding queueReceive queueAt receiveFrom startWait heldAt answerOf carried answered withScheduler withHeld withQueue
+unfolding queueReceive queueAt receiveFrom startWait answerOf carried answered withScheduler withHeld withQueue
 returns-2 c =
-    let e = c .before .before .before .before in
-    let a = e .before .before .before .before .args in
-    let q = e .before .before .queue-in .result in
-    let i = e .before .before .queue-in .ensures in
-    let z = sym (reason (e .before)) ∙ e .if1 .left in
-    let l = held-sized (e .before .before .before .before) in
-    let u = queues-sized (e .before .before .before .before) in
-    let m : answered (c .before .if2 .self) (c .before .if2 .s) (c .before .if2 .status) (c .before .if2 .words) (c .before .if2 .ended) ≡ answerOf (receiveFrom (a .t1) (a .n .0) q (a .wait)) =
+    let b = c .before .before in
+    let k = b .before .before in
+    let a = k .before .before .before .before .args in
+    let q = k .before .before .queue-in in
+    let z = sym (reason (k .before)) ∙ k .if1 .left in
+    let l = held-sized (k .before .before .before .before) in
+    let i = c .before .if2 in
+    let m : answered (i .self) (i .s) (i .status) (i .words) (i .ended) ≡ answerOf (receiveFrom (a .t1) (a .n .0) (q .result) (a .wait)) =
     ⊎-elim
-    (λ w. rw (w .6, w .7, w .8, w .9, w .10, ← c .before .before .is-empty .ensures, w .0 .taken, w .3 .ensures, w .5 .ensures))
+    (λ w. rw (w .6, w .7, w .8, w .9, w .10, ← b .is-empty .ensures, w .0 .taken, w .3 .ensures, w .5 .ensures))
     (λ w. ⊎-elim
-    (λ v. rw (v .5 ∙ sym (held-out (a .t1) (a .t1 .scheduler .running .0) waiting l (v .4 .left)), v .6, v .7, v .8, v .9, ← c .before .before .is-empty .ensures, v .0 .taken, v .3 .ensures))
+    (λ v. rw (v .5 ∙ sym (held-out (a .t1) (a .t1 .scheduler .running .0) waiting l (v .4 .left)), v .6, v .7, v .8, v .9, ← b .is-empty .ensures, v .0 .taken, v .3 .ensures))
     (λ v. ⊎-elim
     (λ x.
     let y = x .4 in
-    let t = x .2 .result .0 in
-    let f : t ≡ firstAt (a .t1 .scheduler) (queuePlace (a .n .0)) = x .2 .ensures ∙ ap (firstAt (a .t1 .scheduler)) (x .1 .ensures) in
-    let n : emptyb q ≡ false = sym (c .before .before .is-empty .ensures) ∙ x .0 .left in
-    let g : answered (withQueue (y .self) (a .n .0) (y .left)) (y .s) success (y .words) (y .ended) ≡ answerOf (receiveFrom (a .t1) (a .n .0) q (a .wait)) =
-    ⊎-elim
-    (λ p.
-    let h = getD-any (a .t1 .held) t _ noHeld (let o = p .0 .taken in omega (arith, l, o)) in
-    from-sender (a .t1) (y .self) (a .n .0) (a .wait) q (y .left) (y .s) (y .words) (y .ended) t _ f n (p .0 .taken) h (p .7 ∙ ap (withHeld (a .t1) t) (p .5 .ensures)) (p .11 ∙ p .4 .ensures) (p .8 ∙ p .6 .ensures) (p .10 ∙ p .3 .ensures) (p .9))
-    (λ p. from-store (a .t1) (y .self) (a .n .0) (a .wait) q (y .left) (y .s) (y .words) (y .ended) t f n (p .0 .left) (p .3) (p .7 ∙ p .2 .ensures) (p .4) (p .6 ∙ p .1 .ensures) (p .5))
-    (y .came) in
-    rw (x .7, x .8, x .9, x .10, x .11) g)
+    let f : tie.After-first-at = record { before = record { before = record { before = b; if2 = x .0 }; place = x .1 }; first-at = x .2 } in
+    let at : tie.Joined4 = record { before = record { before = f; struct-known2 = x .3 }; if4 = y } in
+    rw (x .7, x .8, x .9, x .10, x .11) (received at))
     (λ x.
     let y = x .4 in
-    let t = x .2 .result .0 in
-    let f : t ≡ firstAt (a .t1 .scheduler) (queuePlace (a .n .0)) = x .2 .ensures ∙ ap (firstAt (a .t1 .scheduler)) (x .1 .ensures) in
-    let n : emptyb q ≡ false = sym (c .before .before .is-empty .ensures) ∙ x .0 .left in
-    let g : answered (withQueue (y .self) (a .n .0) (y .left)) (y .s) success (y .words) (y .ended) ≡ answerOf (receiveFrom (a .t1) (a .n .0) q (a .wait)) =
-    ⊎-elim
-    (λ p.
-    let h = getD-any (a .t1 .held) t _ noHeld (let o = p .0 .taken in omega (arith, l, o)) in
-    from-sender (a .t1) (y .self) (a .n .0) (a .wait) q (y .left) (y .s) (y .words) (y .ended) t _ f n (p .0 .taken) h (p .7 ∙ ap (withHeld (a .t1) t) (p .5 .ensures)) (p .11 ∙ p .4 .ensures) (p .8 ∙ p .6 .ensures) (p .10 ∙ p .3 .ensures) (p .9))
-    (λ p. from-store (a .t1) (y .self) (a .n .0) (a .wait) q (y .left) (y .s) (y .words) (y .ended) t f n (p .0 .left) (p .3) (p .7 ∙ p .2 .ensures) (p .4) (p .6 ∙ p .1 .ensures) (p .5))
-    (y .came) in
-    let b : length (y .self .queues) ≡ 8 = ⊎-elim (λ p. ap (λ (k : Kernel). length (k .queues)) (p .7) ∙ u) (λ p. ap (λ (k : Kernel). length (k .queues)) (p .3) ∙ u) (y .came) in
-    rw (x .7 ∙ sym (queue-out (y .self) (a .n .0) (y .left) b (x .6 .left)), x .8, x .9, x .10, x .11) g)
+    let f : tie.After-first-at = record { before = record { before = record { before = b; if2 = x .0 }; place = x .1 }; first-at = x .2 } in
+    let at : tie.Joined4 = record { before = record { before = f; struct-known2 = x .3 }; if4 = y } in
+    rw (x .7 ∙ sym (queue-out (y .self) (a .n .0) (y .left) (kept-size at) (x .6 .left)), x .8, x .9, x .10, x .11) (received at))
     v)
     w)
-    (c .before .if2 .came) in
-    rw is-carried (c .carried .ensures ∙ m ∙ ap (λ (x : Queue). answerOf (receiveFrom (a .t1) (a .n .0) x (a .wait))) i)
+    (i .came) in
+    rw is-carried (c .carried .ensures ∙ m ∙ ap (λ (x : Queue). answerOf (receiveFrom (a .t1) (a .n .0) x (a .wait))) (q .ensures))
 
 pub queue-receive-spec : {M : Type 1} → statement M
 unfolding queueReceive
