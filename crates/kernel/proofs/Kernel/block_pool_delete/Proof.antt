@@ -28,7 +28,8 @@ returns-2 c =
     let z = sym (reason (h .before)) ∙ h .if1 .left in
     let m = c .before .before .before .line-at .ensures .1 ∙ ap (lineAt (a .self .scheduler)) (c .before .before .before .before .place .ensures) in
     let p = lineAt (a .self .scheduler) (poolPlace (a .n .0)) in
-    rw is-carried (c .ended-each .ensures ∙ rw (m, c .before .pools-with .ensures, c .before .before .none .ensures) (ap (λ (k : Kernel). answerOf (carried k 0 noWords p)) (each-pool (a .self) (a .n .0) noPool 1 noWords p)))
+    let e = ap (λ (k : Kernel). answerOf (carried k 0 noWords p)) (each-pool (a .self) (a .n .0) noPool 1 noWords p) in
+    rw is-carried (c .ended-each .ensures ∙ rw (m, c .before .pools-with .ensures, c .before .before .none .ensures) e)
 
 pub block-pool-delete-spec : {M : Type 1} → statement M
 unfolding poolDelete

@@ -28,7 +28,8 @@ returns-2 c =
     let z = sym (reason (h .before)) ∙ h .if1 .left in
     let line = lineAt (a .self .scheduler) (groupPlace (a .n .0)) in
     let m = c .before .before .before .line-at .ensures .1 ∙ ap (lineAt (a .self .scheduler)) (c .before .before .before .before .place .ensures) in
-    rw is-carried (c .ended-each .ensures ∙ rw (m, c .before .groups-with .ensures, c .before .before .none .ensures) (ap (λ (k : Kernel). answerOf (carried k 0 noWords line)) (each-group (a .self) (a .n .0) noGroup 1 noWords line)))
+    let e = ap (λ (k : Kernel). answerOf (carried k 0 noWords line)) (each-group (a .self) (a .n .0) noGroup 1 noWords line) in
+    rw is-carried (c .ended-each .ensures ∙ rw (m, c .before .groups-with .ensures, c .before .before .none .ensures) e)
 
 pub event-flags-delete-spec : {M : Type 1} → statement M
 unfolding groupDelete

@@ -29,7 +29,9 @@ returns c =
     ⊎-elim (λ w. w .1) (λ w. w .1 ∙ sym (queue-out (a .t1) (a .n .0) (a .q) l (w .0 .left))) (c .before .if1 .came) in
     let line = lineAt (a .t1 .scheduler) (queuePlace (a .n .0)) in
     let p = c .before .before .before .line-at .ensures .1 ∙ ap (lineAt (a .t1 .scheduler)) (c .before .before .before .before .place .ensures) in
-    c .ended-each .ensures ∙ (λ j. answerOf (carried (endEach (m j) (a .status) noWords (p j)) 0 noWords (p j))) ∙ ap (λ (k : Kernel). answerOf (carried k 0 noWords line)) (each-queue (a .t1) (a .n .0) (a .q) (a .status) noWords line)
+    c .ended-each .ensures
+    ∙ (λ j. answerOf (carried (endEach (m j) (a .status) noWords (p j)) 0 noWords (p j)))
+    ∙ ap (λ (k : Kernel). answerOf (carried k 0 noWords line)) (each-queue (a .t1) (a .n .0) (a .q) (a .status) noWords line)
 
 pub queue-ended-spec : {M : Type 1} → statement M
 queue-ended-spec =

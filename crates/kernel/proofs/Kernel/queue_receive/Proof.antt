@@ -111,7 +111,9 @@ returns-2 c =
     ⊎-elim
     (λ w. rw (w .6, w .7, w .8, w .9, w .10, ← b .is-empty .ensures, w .0 .taken, w .3 .ensures, w .5 .ensures))
     (λ w. ⊎-elim
-    (λ v. rw (v .5 ∙ sym (held-out (a .t1) (a .t1 .scheduler .running .0) waiting l (v .4 .left)), v .6, v .7, v .8, v .9, ← b .is-empty .ensures, v .0 .taken, v .3 .ensures))
+    (λ v.
+    let o = held-out (a .t1) (a .t1 .scheduler .running .0) waiting l (v .4 .left) in
+    rw (v .5 ∙ sym o, v .6, v .7, v .8, v .9, ← b .is-empty .ensures, v .0 .taken, v .3 .ensures))
     (λ v. ⊎-elim
     (λ x.
     let y = x .4 in

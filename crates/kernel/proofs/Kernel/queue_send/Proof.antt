@@ -41,24 +41,37 @@ returns-2 c =
     let a = k .before .before .before .before .before .args in
     let q = k .before .before .queue-in .result in
     let i = k .before .before .queue-in .ensures in
+    let text = c .before .before .before .before .message-in in
+    let room = c .before .before .has-room in
     let z = sym (reason (k .before)) ∙ k .if1 .left in
     let l = held-sized (k .before .before .before .before .before) in
     let u = queues-sized (k .before .before .before .before .before) in
-    let m : answered (c .before .if2 .self) (c .before .if2 .s) (c .before .if2 .status) noWords (c .before .if2 .ended) ≡ answerOf (sendTo (a .t1) (a .n .0) q (a .wait) (a .front) (c .before .before .before .before .message-in .result)) =
+    let d = c .before .if2 in
+    let m : answered (d .self) (d .s) (d .status) noWords (d .ended) ≡ answerOf (sendTo (a .t1) (a .n .0) q (a .wait) (a .front) (text .result)) =
     ⊎-elim
-    (λ w. rw (w .7, w .8, w .9, w .10, ← c .before .before .has-room .ensures, w .0 .taken, ← w .2 .ensures ∙ ap (firstAt (a .t1 .scheduler)) (w .1 .ensures), lt-ltb (w .2 .result .0) 32 (w .4 .taken), w .6 .ensures, w .5 .ensures))
+    (λ w.
+    let f = w .2 .ensures ∙ ap (firstAt (a .t1 .scheduler)) (w .1 .ensures) in
+    rw (w .7, w .8, w .9, w .10, ← room .ensures, w .0 .taken, ← f, lt-ltb (w .2 .result .0) 32 (w .4 .taken), w .6 .ensures, w .5 .ensures))
     (λ w. ⊎-elim
-    (λ v. rw (v .8, v .9, v .10, v .11, ← c .before .before .has-room .ensures, v .0 .taken, ← v .2 .ensures ∙ ap (firstAt (a .t1 .scheduler)) (v .1 .ensures), le-ltb (v .2 .result .0) 32 (v .4 .left), v .5 .ensures))
+    (λ v.
+    let f = v .2 .ensures ∙ ap (firstAt (a .t1 .scheduler)) (v .1 .ensures) in
+    rw (v .8, v .9, v .10, v .11, ← room .ensures, v .0 .taken, ← f, le-ltb (v .2 .result .0) 32 (v .4 .left), v .5 .ensures))
     (λ v. ⊎-elim
-    (λ x. rw (x .8 ∙ sym (queue-out (a .t1) (a .n .0) (x .5 .result) u (x .7 .left)), x .9, x .10, x .11, ← c .before .before .has-room .ensures, x .0 .taken, ← x .2 .ensures ∙ ap (firstAt (a .t1 .scheduler)) (x .1 .ensures), le-ltb (x .2 .result .0) 32 (x .4 .left), x .5 .ensures))
+    (λ x.
+    let f = x .2 .ensures ∙ ap (firstAt (a .t1 .scheduler)) (x .1 .ensures) in
+    let o = queue-out (a .t1) (a .n .0) (x .5 .result) u (x .7 .left) in
+    rw (x .8 ∙ sym o, x .9, x .10, x .11, ← room .ensures, x .0 .taken, ← f, le-ltb (x .2 .result .0) 32 (x .4 .left), x .5 .ensures))
     (λ x. ⊎-elim
-    (λ y. rw (y .6, y .7, y .8, y .9, ← c .before .before .has-room .ensures, y .0 .left, y .3 .ensures, y .5 .ensures))
-    (λ y. rw (y .5 ∙ sym (held-out (a .t1) (a .t1 .scheduler .running .0) (sending (a .front) (c .before .before .before .before .message-in .result)) l (y .4 .left)), y .6, y .7, y .8, ← c .before .before .has-room .ensures, y .0 .left, y .3 .ensures))
+    (λ y. rw (y .6, y .7, y .8, y .9, ← room .ensures, y .0 .left, y .3 .ensures, y .5 .ensures))
+    (λ y.
+    let o = held-out (a .t1) (a .t1 .scheduler .running .0) (sending (a .front) (text .result)) l (y .4 .left) in
+    rw (y .5 ∙ sym o, y .6, y .7, y .8, ← room .ensures, y .0 .left, y .3 .ensures))
     x)
     v)
     w)
-    (c .before .if2 .came) in
-    rw is-carried (c .carried .ensures ∙ m ∙ rw (c .before .before .before .before .message-in .ensures) (ap (λ (x : Queue). answerOf (sendTo (a .t1) (a .n .0) x (a .wait) (a .front) (messageIn (a .messages .now) (a .index) (x .words)))) i))
+    (d .came) in
+    let e = ap (λ (x : Queue). answerOf (sendTo (a .t1) (a .n .0) x (a .wait) (a .front) (messageIn (a .messages .now) (a .index) (x .words)))) i in
+    rw is-carried (c .carried .ensures ∙ m ∙ rw (text .ensures) e)
 
 pub queue-send-spec : {M : Type 1} → statement M
 unfolding queueSend

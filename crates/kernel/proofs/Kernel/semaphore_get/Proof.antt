@@ -36,14 +36,17 @@ returns-2 c =
     let x = k .before .before .semaphore-in .result in
     let z = sym (reason (k .before)) ∙ k .if1 .left in
     let l = held-sized (k .before .before .before .before) in
-    let m : answered (c .before .if2 .self) (c .before .if2 .s) (c .before .if2 .status) noWords 0 ≡ answerOf (semaphoreGet (a .t1) (a .caller) (a .n .0) (a .wait)) =
+    let d = c .before .if2 in
+    let m : answered (d .self) (d .s) (d .status) noWords 0 ≡ answerOf (semaphoreGet (a .t1) (a .caller) (a .n .0) (a .wait)) =
     ⊎-elim
     (λ w. rw (w .4, w .5, w .6, is-carried, ← k .before .before .semaphore-in .ensures, lt-ltb 0 (x .count) (w .0 .taken), w .3 .ensures, w .2 .ensures))
     (λ w. ⊎-elim
     (λ v. rw (v .6, v .7, v .8, is-carried, ← k .before .before .semaphore-in .ensures, le-ltb 0 (x .count) (v .0 .left), v .3 .ensures, v .5 .ensures))
-    (λ v. rw (v .5 ∙ sym (held-out (a .t1) (a .t1 .scheduler .running .0) waiting l (v .4 .left)), v .6, v .7, is-carried, ← k .before .before .semaphore-in .ensures, le-ltb 0 (x .count) (v .0 .left), v .3 .ensures))
+    (λ v.
+    let o = held-out (a .t1) (a .t1 .scheduler .running .0) waiting l (v .4 .left) in
+    rw (v .5 ∙ sym o, v .6, v .7, is-carried, ← k .before .before .semaphore-in .ensures, le-ltb 0 (x .count) (v .0 .left), v .3 .ensures))
     w)
-    (c .before .if2 .came) in
+    (d .came) in
     c .carried .ensures ∙ m
 
 pub semaphore-get-spec : {M : Type 1} → statement M

@@ -27,14 +27,17 @@ returns-2 c =
     let a = k .before .before .args in
     let z = sym (reason (k .before)) ∙ k .if1 .left in
     let l : length (a .t1 .held) ≡ 32 = search length-mapped in
-    let m : answered (c .before .if2 .self) (c .before .if2 .s) (c .before .if2 .status) noWords 0 ≡ answerOf (threadSleep (a .t1) (a .caller) (a .ticks)) =
+    let d = c .before .if2 in
+    let m : answered (d .self) (d .s) (d .status) noWords 0 ≡ answerOf (threadSleep (a .t1) (a .caller) (a .ticks)) =
     ⊎-elim
     (λ w. rw (w .6, w .7, w .8, is-carried, ne-eqb (a .ticks) 0 (w .0 .taken), w .3 .ensures, w .5 .ensures))
     (λ w. ⊎-elim
-    (λ v. rw (v .5 ∙ sym (held-out (a .t1) (a .t1 .scheduler .running .0) waiting l (v .4 .left)), v .6, v .7, is-carried, ne-eqb (a .ticks) 0 (v .0 .taken), v .3 .ensures))
+    (λ v.
+    let o = held-out (a .t1) (a .t1 .scheduler .running .0) waiting l (v .4 .left) in
+    rw (v .5 ∙ sym o, v .6, v .7, is-carried, ne-eqb (a .ticks) 0 (v .0 .taken), v .3 .ensures))
     (λ v. rw (v .1, v .2, v .3, is-carried, eq-eqb (a .ticks) 0 (v .0 .left)))
     w)
-    (c .before .if2 .came) in
+    (d .came) in
     c .carried .ensures ∙ m
 
 pub thread-sleep-spec : {M : Type 1} → statement M
