@@ -3,16 +3,19 @@ use mathlib.Core.Path.{_≡_, sym, ap, _∙_}
 use mathlib.Core.List.{List}
 use mathlib.Core.Bool.{Bool, true, false, not}
 use Prim.Native.Nat.{ℕ}
+use lib.ListN.{length}
 use borrow.Author.Tests.{not-true, not-false}
+use Rattle.scheduler.specs.declared.Scheduler.{Scheduler}
+use Rattle.scheduler.specs.Choice.{rescheduled}
 use Rattle.calls.specs.Calls.{decoded}
 use Rattle.calls.specs.Statuses as Statuses
 use Rattle.calls.specs.declared.call.Call.{Call}
 use Rattle.calls.specs.declared.call.Decoded.{Decoded}
 use Rattle.calls.specs.declared.call.Decoded.the-variants.{Known, Unknown}
 use Rattle.kernel.specs.declared.Kernel.{Kernel}
-use Rattle.kernel.specs.Tables.{runnerOf}
+use Rattle.kernel.specs.Tables.{runnerOf, withScheduler}
 use Rattle.kernel.specs.declared.Answer.{Answer}
-use Rattle.kernel.specs.Answers.{Outcome, answerOf, refused, guarded}
+use Rattle.kernel.specs.Answers.{Outcome, answerOf, refused, carried, guarded, answered}
 use Rattle.kernel.specs.Sound.{soundb}
 use Rattle.kernel.specs.General.{service, nobodyRunsb, byCaller, byRecord, step, unsound, call}
 use Rattle.kernel.proofs.Laws.Answers.{is-refused}
@@ -44,3 +47,10 @@ module _ (k : Kernel) (number caller a b c d : ℕ) (ms : List ℕ) where
 pub refused-by : (k : Kernel) {found reason : ℕ} (o : Outcome) {r : Answer}
     → r ≡ answerOf (refused k found) → found ≡ reason → (found ≡ 0 → ⊥) → r ≡ answerOf (guarded k reason o)
 refused-by k {reason = reason} o p e n = p ∙ ap answerOf (ap (refused k) e ∙ sym (is-refused k reason o (λ w. n (e ∙ w))))
+
+-- a service is carried out with the tables k, and so many waits have ended as a list has threads
+pub carried-as : (self : Kernel) (s : Scheduler) {k : Kernel} {n : ℕ} (status : ℕ) (words xs : List ℕ)
+    → withScheduler self s ≡ k → n ≡ length xs → answered self s status words n ≡ answerOf (carried k status words xs)
+unfolding answerOf carried answered withScheduler
+carried-as self s status words xs e n =
+    λ j. record { status = status; words = words; next = rescheduled (e j .scheduler) false .running; ended = n j; kernel = withScheduler (e j) (rescheduled (e j .scheduler) false) }

@@ -1,5 +1,4 @@
 use mathlib.Core.Path.{_≡_, refl, sym, ap, _∙_}
-use mathlib.Core.Bool.{false}
 use mathlib.Core.List.{List}
 use Prim.Native.Nat.{_+_, ℕ, _≤_, _-_}
 use native.Mathlib.Omega.{arith}
@@ -17,7 +16,7 @@ use Rattle.kernel.specs.Waits.{endEach}
 use Rattle.kernel.proofs.Laws.Waits.{each-step}
 use Rattle.kernel.proofs.Laws.Answers.{held-out}
 use lib.ListN.{length-set}
-use Rattle.scheduler.specs.Choice.{rescheduled}
+use Rattle.kernel.proofs.Laws.Arms.{carried-as}
 use Rattle.kernel.proofs.Kernel.ended_each.Statement.{statement}
 use Rattle.kernel.proofs.Kernel.ended_each.Tie as tie
 
@@ -90,7 +89,7 @@ returns c =
     l .inv .4
     ∙ (λ j. endEach (a .t1) (a .status) (c .before .before .before .before .of .ensures j .words) (take (l .i) (a .line .ids)))
     ∙ ap (endEach (a .t1) (a .status) (a .words)) (ap (λ (j : ℕ). take j (a .line .ids)) n ∙ members-take (a .line)) in
-    c .carried .ensures ∙ (λ j. record { status = 0; words = noWords; next = rescheduled (e j .scheduler) false .running; ended = c .before .before .before .before .before .size .ensures j; kernel = withScheduler (e j) (rescheduled (e j .scheduler) false) })
+    c .carried .ensures ∙ carried-as (l .self) (l .s) 0 noWords (members (a .line)) e (c .before .before .before .before .before .size .ensures)
 
 pub ended-each-spec : {M : Type 1} → statement M
 ended-each-spec =

@@ -1,5 +1,4 @@
 use mathlib.Core.Path.{_≡_, refl, ap, _∙_, sym}
-use mathlib.Core.Bool.{false}
 use mathlib.Core.List.{List}
 use Prim.Native.Nat.{ℕ, _<_, _≤_, _-_}
 use native.Mathlib.Omega.{arith}
@@ -22,9 +21,9 @@ use Rattle.kernel.proofs.Laws.Groups.{table-all, clears-by, woken-membe
 use Rattle.lines.proofs.Laws.Lists.{getD-any}
 use native.Mathlib.Nat.{not-suc-le-zero}
 use Rattle.lines.specs.declared.Line.{Line}
-use Rattle.scheduler.specs.Choice.{rescheduled}
 use Rattle.kernel.specs.Waits.{endEach}
 use Rattle.kernel.proofs.Laws.Answers.{held-out}
+use Rattle.kernel.proofs.Laws.Arms.{carried-as}
 use Rattle.kernel.proofs.Kernel.set_or.Statement.{statement}
 use Rattle.kernel.proofs.Kernel.set_or.Tie as tie
 
@@ -87,7 +86,8 @@ loop2-again c =
     let x = getD ids (l .i) 0 in
     let h : l .i < length ids = omega (arith, l .inv .0, l .inv .1, l .inv .2, c .before .before .loop2-test .taken) in
     let v = c .before .before .before .before .of2 .result in
-    let g : v ≡ holding 0 (v .words) = c .before .before .before .before .of2 .ensures ∙ sym (ap (λ (y : Held). holding 0 (y .words)) (c .before .before .before .before .of2 .ensures)) in (
+    let f = c .before .before .before .before .of2 .ensures in
+    let g : v ≡ holding 0 (v .words) = f ∙ sym (ap (λ (y : Held). holding 0 (y .words)) f) in (
       omega arith,
       omega arith,
       l .inv .2,
@@ -102,32 +102,34 @@ loop2-again-2 c =
     let ids = c .before .before .before .before .before .before .before .before .before .before .before .before .before .woken .result .line .ids in
     let x = getD ids (l .i) 0 in
     let h : l .i < length ids = omega (arith, l .inv .0, l .inv .1, l .inv .2, c .before .before .loop2-test .taken) in
-    let v = c .before .before .before .before .of2 .result in (
+    let v = c .before .before .before .before .of2 .result in
+    let o = held-out (withScheduler (l .self) (woken (l .s) x)) x (holding 0 (v .words)) (l .inv .3) (c .if1 .left) in (
       omega arith,
       omega arith,
       l .inv .2,
       l .inv .3,
-      rw (c .before .woken2 .ensures) (sym (held-out (withScheduler (l .self) (woken (l .s) x)) x (holding 0 (v .words)) (l .inv .3) (c .if1 .left)) ∙ each-step _ (l .self) (l .s) 0 (v .words) ids (l .i) h (l .inv .4)),
+      rw (c .before .woken2 .ensures) (sym o ∙ each-step _ (l .self) (l .s) 0 (v .words) ids (l .i) h (l .inv .4)),
     )
 
 returns : tie.Need-returns Inv-loop μ-loop Inv-loop2 μ-loop2
 unfolding setOr holding withGroup lineOf answerOf carried answered withScheduler
 returns c =
-    let by = c .before .before .before .before .before .before .before .before .before .before .before .before .woken in
-    let found = c .before .before .before .before .before .before .before .before .before .before .before .before .before .line-at in
+    let at = c .before .before .before .before .before .before .before .before .before .before .before .before in
+    let by = at .woken in
+    let found = at .before .line-at in
     let size = c .before .before .before .before .before .size in
     let two = c .before .before .before .before .two-words in
     let store = c .before .before .before .before .before .before .before .before .groups-with in
-    let start = c .before .before .before .before .before .before .before .before .before .before .before .before .before .before .before .before .before .before in
+    let start = at .before .before .before .before .before .before in
     let a = start .args in
-    let l = c .before .before .before .before .before .before .before .before .before .before .before .before .before .before .before .before .before .loop in
+    let l = at .before .before .before .before .before .loop in
     let s = held-sized start in
-    let e : l .t ≡ 32 = omega (arith, l .inv .0, c .before .before .before .before .before .before .before .before .before .before .before .before .before .before .before .before .loop-test .left) in
+    let e : l .t ≡ 32 = omega (arith, l .inv .0, at .before .before .before .before .loop-test .left) in
     let rs = table-all (a .t1) (λ y. y .request) (l .requests) refl (l .inv .1) s (λ j m. l .inv .3 j (omega (arith, m, e))) in
     let os = table-all (a .t1) (λ y. y .option) (l .options) refl (l .inv .2) s (λ j m. l .inv .4 j (omega (arith, m, e))) in
     let line = lineAt (a .t1 .scheduler) (groupPlace (a .n .0)) in
     let m : members (found .result) ≡ line =
-    found .ensures .1 ∙ ap (lineAt (a .t1 .scheduler)) (c .before .before .before .before .before .before .before .before .before .before .before .before .before .before .place .ensures) in
+    found .ensures .1 ∙ ap (lineAt (a .t1 .scheduler)) (at .before .before .place .ensures) in
     let o = length-members (found .result) (ap (λ (y : Line). length (y .ids)) (found .ensures .0) ∙ length-pad 32 _) in
     let q = ap (λ (xs : List ℕ). length xs) m in
     let most : length line ≤ 32 = omega (arith, o, q) in
@@ -135,7 +137,8 @@ returns c =
     let w : members (by .result .line) ≡ wokenBy (a .t1) (a .n .0) (a .flags) =
     ap members v ∙ woken-members (a .t1) (a .n .0) (a .flags) (l .requests) (l .options) rs os most in
     let x : by .result .clears ≡ clearsBy (a .t1) (a .n .0) (a .flags) =
-    by .ensures .1 ∙ ap (clearsOf (a .flags) (l .requests) (l .options)) m ∙ clears-by (a .t1) (a .n .0) (a .flags) (l .requests) (l .options) rs os in
+    by .ensures .1 ∙ ap (clearsOf (a .flags) (l .requests) (l .options)) m
+    ∙ clears-by (a .t1) (a .n .0) (a .flags) (l .requests) (l .options) rs os in
     let g = groupWith (lessFlags (a .flags) (clearsBy (a .t1) (a .n .0) (a .flags))) in
     let u = wokenBy (a .t1) (a .n .0) (a .flags) in
     let p = c .before .before .loop2 in
@@ -148,14 +151,17 @@ returns c =
       queues = a .t1 .queues;
       groups = store .result;
       pools = a .t1 .pools;
-      clock =
-          a .t1 .clock;
+      clock = a .t1 .clock;
     } in
     let each : withScheduler (p .self) (p .s) ≡ endEach k 0 (two .result) (members (by .result .line)) =
-    p .inv .4 ∙ (λ j. endEach k 0 (c .before .before .before .of2 .ensures j .words) (take (p .i) ids)) ∙ ap (endEach k 0 (two .result)) (ap (λ (j : ℕ). take j ids) n ∙ members-take (by .result .line)) in
-    let done : c .carried .result ≡ answerOf (carried (endEach k 0 (two .result) (members (by .result .line))) 0 noWords (members (by .result .line))) =
-    c .carried .ensures ∙ (λ j. record { status = 0; words = noWords; next = rescheduled (each j .scheduler) false .running; ended = size .ensures j; kernel = withScheduler (each j) (rescheduled (each j .scheduler) false) }) in
-    done ∙ rw (w, store .ensures, c .before .before .before .before .before .before .before .before .before .of .ensures, c .before .before .before .before .before .before .before .before .before .before .less .ensures, x, two .ensures) (ap (λ (y : Kernel). answerOf (carried y 0 noWords u)) (each-group (a .t1) (a .n .0) g 0 (oneWord (a .flags)) u))
+    p .inv .4
+    ∙ (λ j. endEach k 0 (c .before .before .before .of2 .ensures j .words) (take (p .i) ids))
+    ∙ ap (endEach k 0 (two .result)) (ap (λ (j : ℕ). take j ids) n ∙ members-take (by .result .line)) in
+    let done = c .carried .ensures ∙ carried-as (p .self) (p .s) 0 noWords (members (by .result .line)) each (size .ensures) in
+    let stored = c .before .before .before .before .before .before .before .before .before in
+    done
+    ∙ rw (w, store .ensures, stored .of .ensures, stored .before .less .ensures, x, two .ensures)
+    (ap (λ (y : Kernel). answerOf (carried y 0 noWords u)) (each-group (a .t1) (a .n .0) g 0 (oneWord (a .flags)) u))
 
 pub set-or-spec : {M : Type 1} → statement M
 set-or-spec =

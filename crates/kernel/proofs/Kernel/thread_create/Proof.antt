@@ -37,7 +37,8 @@ unfolding threadCreate given answerOf carried answered withHeld withScheduler
 returns-2 c =
     let k = c .before .before .before .before .before in
     let z = sym (reason (k .before)) ∙ k .if1 .left in
-    rw is-carried (c .held-carried .ensures ∙ rw (c .before .moved .ensures, c .before .before .of .ensures, c .before .before .before .created .ensures, c .before .before .before .before .start-state .ensures))
+    let m = c .before .before .before in
+    rw is-carried (c .held-carried .ensures ∙ rw (c .before .moved .ensures, c .before .before .of .ensures, m .created .ensures, m .before .start-state .ensures))
 
 pub thread-create-spec : {M : Type 1} → statement M
 unfolding threadCreate

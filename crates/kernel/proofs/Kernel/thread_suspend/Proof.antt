@@ -27,7 +27,9 @@ unfolding threadSuspend answerOf carried answered given withHeld withScheduler w
 returns-3 c =
     let k = c .before .before .before .before .before .before .before in
     let z = sym (reason (k .before)) ∙ k .if1 .left in
-    rw (is-carried, ← k .before .before .thread-at .ensures, ← c .before .before .before .before .before .before .is-paused .ensures, c .before .before .before .before .before .if2 .left, ← c .before .before .before .before .is-ready .ensures, c .before .before .before .if3 .taken)
+    let o = c .before .before .before in
+    let p = o .before .before in
+    rw (is-carried, ← k .before .before .thread-at .ensures, ← p .before .is-paused .ensures, p .if2 .left, ← o .before .is-ready .ensures, o .if3 .taken)
     (c .carried2 .ensures ∙ rw (c .before .moved .ensures, c .before .before .in-state .ensures))
 
 returns-4 : tie.Need-returns-4
@@ -35,7 +37,9 @@ unfolding threadSuspend answerOf carried answered given withHeld withScheduler w
 returns-4 c =
     let k = c .before .before .before .before .before in
     let z = sym (reason (k .before)) ∙ k .if1 .left in
-    rw (is-carried, ← k .before .before .thread-at .ensures, ← c .before .before .before .before .is-paused .ensures, c .before .before .before .if2 .left, ← c .before .before .is-ready .ensures, c .before .if3 .left)
+    let o = c .before in
+    let p = o .before .before in
+    rw (is-carried, ← k .before .before .thread-at .ensures, ← p .before .is-paused .ensures, p .if2 .left, ← o .before .is-ready .ensures, o .if3 .left)
     (c .carried3 .ensures)
 
 pub thread-suspend-spec : {M : Type 1} → statement M
