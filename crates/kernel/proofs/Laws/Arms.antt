@@ -1,4 +1,4 @@
--- Laws of the general call and of services: the answer, by what is found before the service, and for a reason to refuse.
+-- Laws of answers by the arms of the code: of the general call, by what is found before the service, and of a service, refused or carried out.
 use mathlib.Core.Path.{_≡_, sym, ap, _∙_}
 use mathlib.Core.List.{List}
 use mathlib.Core.Bool.{Bool, true, false, not}
@@ -20,7 +20,9 @@ use Rattle.kernel.specs.Sound.{soundb}
 use Rattle.kernel.specs.General.{service, nobodyRunsb, byCaller, byRecord, step, unsound, call}
 use Rattle.kernel.proofs.Laws.Answers.{is-refused}
 
+-- ---- the general call
 module _ (k : Kernel) (number caller a b c d : ℕ) (ms : List ℕ) where
+  -- unsound tables are refused
   pub on-unsound : {s : Bool} → s ≡ soundb k → not s ≡ true → unsound k ≡ call k number caller a b c d ms
   unfolding call
   on-unsound {s} e f = rw (← e, not-true s f)
@@ -30,6 +32,7 @@ module _ (k : Kernel) (number caller a b c d : ℕ) (ms : List ℕ) where
   unfolding call
   on-sound {s} e f = rw (← e, not-false s f)
 
+  -- the step, by the record that is read: unknown; from a thread while nobody runs; or its service
   module _ {r : Decoded} (e : r ≡ decoded number caller a b c d) where
     pub on-unknown : r ≡ Unknown → refused k Statuses.unknownCall ≡ step k number caller a b c d ms
     unfolding step byRecord
@@ -43,6 +46,7 @@ module _ (k : Kernel) (number caller a b c d : ℕ) (ms : List ℕ) where
     unfolding step byRecord byCaller
     on-known u n v = rw (← e, u, n, v)
 
+-- ---- services
 -- a service that finds a reason is refused for it
 pub refused-by : (k : Kernel) {found reason : ℕ} (o : Outcome) {r : Answer}
     → r ≡ answerOf (refused k found) → found ≡ reason → (found ≡ 0 → ⊥) → r ≡ answerOf (guarded k reason o)

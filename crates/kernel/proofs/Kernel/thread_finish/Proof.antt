@@ -1,6 +1,5 @@
-use mathlib.Core.Path.{_≡_, sym, _∙_}
+use mathlib.Core.Path.{sym, _∙_}
 use borrow.Author.Needs.{needs}
-use Rattle.calls.specs.Refusals.{threadOnlyRefusal}
 use Rattle.kernel.specs.Tables.{withScheduler, withHeld, given}
 use Rattle.kernel.specs.Answers.{answerOf, carried, answered}
 use Rattle.kernel.specs.Threads.{threadFinish}
@@ -9,17 +8,11 @@ use Rattle.kernel.proofs.Laws.Arms.{refused-by}
 use Rattle.kernel.proofs.Kernel.thread_finish.Statement.{statement}
 use Rattle.kernel.proofs.Kernel.thread_finish.Tie as tie
 
--- the reason that is found is that of the definition
-module _ (k : tie.After-thread-only) where
-  reason : let a = k .before .args in k .thread-only .result ≡ threadOnlyRefusal (a .caller)
-  reason = k .thread-only .ensures
-
 returns-2 : tie.Need-returns-2
 unfolding threadFinish given answerOf carried answered withHeld withScheduler
 returns-2 c =
-    let a = c .before .before .before .before .before .before .before .before .before .args in
-    let z : threadOnlyRefusal (a .caller) ≡ 0 =
-    sym (c .before .before .before .before .before .before .before .before .thread-only .ensures) ∙ c .before .before .before .before .before .before .before .if1 .left in
+    let k = c .before .before .before .before .before .before .before in
+    let z = sym (k .before .thread-only .ensures) ∙ k .if1 .left in
     rw (is-carried, ← c .before .before .before .before .thread-at .ensures)
     (c .held-carried .ensures ∙ rw (c .before .moved .ensures, c .before .before .of .ensures, c .before .before .before .in-state .ensures))
 
@@ -29,7 +22,7 @@ thread-finish-spec =
     tie.close
     (tie.spec
     (λ c κs. search needs) (λ c κs. search needs)
-    (λ c. refused-by _ _ (c .refused .ensures) (reason (c .before .before)) (c .before .if1 .taken))
+    (λ c. refused-by _ _ (c .refused .ensures) (c .before .before .thread-only .ensures) (c .before .if1 .taken))
     (λ c κs. search needs) (λ c κs. search needs) (λ c κs. search needs) (λ c κs. search needs)
     (λ c κs. search needs)
     returns-2)

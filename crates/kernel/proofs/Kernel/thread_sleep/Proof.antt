@@ -5,7 +5,6 @@ use borrow.Author.Tests.{eq-eqb, ne-eqb}
 use lib.ListN.{length}
 use Rattle.scheduler.proofs.Laws.Threads.{length-mapped}
 use Rattle.calls.specs.Held.{noWords, waiting}
-use Rattle.calls.specs.Refusals.{threadOnlyRefusal}
 use Rattle.kernel.specs.Tables.{withScheduler, withHeld}
 use Rattle.kernel.specs.Answers.{answerOf, carried, answered}
 use Rattle.kernel.specs.Waits.{startWait}
@@ -15,17 +14,12 @@ use Rattle.kernel.proofs.Laws.Arms.{refused-by}
 use Rattle.kernel.proofs.Kernel.thread_sleep.Statement.{statement}
 use Rattle.kernel.proofs.Kernel.thread_sleep.Tie as tie
 
--- the reason that is found is that of the definition
-module _ (k : tie.After-thread-only) where
-  reason : let a = k .before .args in k .thread-only .result ≡ threadOnlyRefusal (a .caller)
-  reason = k .thread-only .ensures
-
 returns-2 : tie.Need-returns-2
 unfolding threadSleep startWait answerOf carried answered withScheduler withHeld
 returns-2 c =
     let k = c .before .before .before in
     let a = k .before .before .args in
-    let z = sym (reason (k .before)) ∙ k .if1 .left in
+    let z = sym (k .before .thread-only .ensures) ∙ k .if1 .left in
     let l : length (a .t1 .held) ≡ 32 = search length-mapped in
     let d = c .before .if2 in
     let m : answered (d .self) (d .s) (d .status) noWords 0 ≡ answerOf (threadSleep (a .t1) (a .caller) (a .ticks)) =
@@ -46,7 +40,7 @@ thread-sleep-spec =
     tie.close
     (tie.spec
     (λ c κs. search needs) (λ c κs. search needs)
-    (λ c. refused-by _ _ (c .refused .ensures) (reason (c .before .before)) (c .before .if1 .taken))
+    (λ c. refused-by _ _ (c .refused .ensures) (c .before .before .thread-only .ensures) (c .before .if1 .taken))
     (λ c. search needs) (λ c κs. search needs) (λ c κs. search needs) (λ c. search needs) (λ c. search needs)
     (λ c κs. search needs)
     returns-2)
