@@ -4,10 +4,7 @@ use Rattle.kernel.specs.Answers.{answered}
 use Rattle.kernel.proofs.Kernel.carried.Statement.{statement}
 use Rattle.kernel.proofs.Kernel.carried.Tie as tie
 
-returns : tie.Need-returns
-unfolding answered withScheduler
-returns c = rw (c .before .rescheduled .ensures)
-
 pub carried-spec : {M : Type 1} → statement M
+unfolding answered withScheduler
 carried-spec =
-    tie.close (tie.spec (λ c κs. search needs) returns)
+    tie.close (tie.spec (λ c κs. search needs) (λ c. rw (c .before .rescheduled .ensures)))

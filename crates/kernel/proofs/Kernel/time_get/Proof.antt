@@ -6,10 +6,10 @@ use Rattle.kernel.specs.Clock.{timeGet}
 use Rattle.kernel.proofs.Kernel.time_get.Statement.{statement}
 use Rattle.kernel.proofs.Kernel.time_get.Tie as tie
 
-returns : tie.Need-returns
-unfolding timeGet answerOf carried answered given withHeld withScheduler withSemaphore withClock
-returns c = c .carried .ensures ∙ rw (c .before .two-words .ensures)
-
 pub time-get-spec : {M : Type 1} → statement M
+unfolding timeGet answerOf carried answered given withHeld withScheduler withSemaphore withClock
 time-get-spec =
-    tie.close (tie.spec (λ c κs. search needs) (λ c κs. search needs) returns)
+    tie.close
+    (tie.spec
+    (λ c κs. search needs) (λ c κs. search needs)
+    (λ c. c .carried .ensures ∙ rw (c .before .two-words .ensures)))

@@ -5,10 +5,7 @@ use Rattle.kernel.specs.Clock.{timeSet}
 use Rattle.kernel.proofs.Kernel.time_set.Statement.{statement}
 use Rattle.kernel.proofs.Kernel.time_set.Tie as tie
 
-returns : tie.Need-returns
-unfolding timeSet answerOf carried answered given withHeld withScheduler withSemaphore withClock
-returns c = c .carried .ensures
-
 pub time-set-spec : {M : Type 1} → statement M
+unfolding timeSet answerOf carried answered given withHeld withScheduler withSemaphore withClock
 time-set-spec =
-    tie.close (tie.spec (λ c κs. search needs) returns)
+    tie.close (tie.spec (λ c κs. search needs) (λ c. c .carried .ensures))

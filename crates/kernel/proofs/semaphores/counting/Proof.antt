@@ -3,10 +3,7 @@ use Rattle.kernel.specs.Semaphores.{counting}
 use Rattle.kernel.proofs.semaphores.counting.Statement.{statement}
 use Rattle.kernel.proofs.semaphores.counting.Tie as tie
 
-returns : tie.Need-returns
-unfolding counting
-returns c = refl
-
 pub counting-spec : {M : Type 1} → statement M
+unfolding counting
 counting-spec =
-    tie.close (tie.spec returns)
+    tie.close (tie.spec (λ c. refl))

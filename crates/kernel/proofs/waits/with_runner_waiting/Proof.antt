@@ -3,9 +3,9 @@ use mathlib.Core.Path.{_∙_}
 use Rattle.kernel.proofs.waits.with_runner_waiting.Statement.{statement}
 use Rattle.kernel.proofs.waits.with_runner_waiting.Tie as tie
 
-returns : tie.Need-returns
-returns c = c .joined .ensures ∙ rw (c .before .in-state .ensures, c .before .before .thread-at .ensures)
-
 pub with-runner-waiting-spec : {M : Type 1} → statement M
 with-runner-waiting-spec =
-    tie.close (tie.spec (λ c κs. search needs) (λ c κs. search needs) (λ c κs. search needs) returns)
+    tie.close
+    (tie.spec
+    (λ c κs. search needs) (λ c κs. search needs) (λ c κs. search needs)
+    (λ c. c .joined .ensures ∙ rw (c .before .in-state .ensures, c .before .before .thread-at .ensures)))
