@@ -13,7 +13,10 @@ unfolding blockView
 returns c =
     let a = c .before .before .before .args in
     let e = c .before .viewed-pool .ensures in
-    (c .block-view .ensures .0 ∙ ap (λ (p : Pool). viewed p (a .block) (a .area .now)) e, λ v. c .block-view .ensures .1 (ap (λ (p : Pool). viewedb p (a .block) (length (a .area .now))) e ∙ v) ∙ ap (λ (p : Pool). onwards (blockStart p (a .block)) (a .area .ptr)) e)
+    let shown = ap (λ (p : Pool). viewed p (a .block) (a .area .now)) e in
+    let test = ap (λ (p : Pool). viewedb p (a .block) (length (a .area .now))) e in
+    let at = ap (λ (p : Pool). onwards (blockStart p (a .block)) (a .area .ptr)) e in
+    (c .block-view .ensures .0 ∙ shown, λ v. c .block-view .ensures .1 (test ∙ v) ∙ at)
 
 pub block-view-spec : {M : Type 1} → statement M
 block-view-spec =

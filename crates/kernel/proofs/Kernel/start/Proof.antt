@@ -5,7 +5,9 @@ use Rattle.kernel.proofs.Kernel.start.Tie as tie
 
 returns : tie.Need-returns
 unfolding started
-returns c = rw (c .before .before .before .before .before .start .ensures, c .before .before .before .before .of .ensures, c .before .before .before .none .ensures, c .before .before .none2 .ensures, c .before .none3 .ensures, c .none4 .ensures)
+returns c =
+    let n = c .before .before .before in
+    rw (n .before .before .start .ensures, n .before .of .ensures, n .none .ensures, c .before .before .none2 .ensures, c .before .none3 .ensures, c .none4 .ensures)
 
 pub start-spec : {M : Type 1} → statement M
 start-spec =
