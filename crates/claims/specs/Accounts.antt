@@ -2,23 +2,21 @@
 -- plus releases less served allocates."
 use mathlib.Core.Path.{_≡_}
 use mathlib.Core.List.{List, [], _∷_}
-use mathlib.Core.Bool.{Bool, true, false, _&&_, _||_, not}
+use mathlib.Core.Bool.{Bool, true, false, _&&_, not}
 use Prim.Native.Nat.{ℕ, _+_, _-_, _/_, _%_, _<_, _≤_}
 use lib.ListN.{length}
 use lib.Dec.{eqb}
 use Rattle.lines.specs.Logic.{oneIf}
 use Rattle.lines.specs.Lists.{filter}
-use Rattle.scheduler.specs.declared.thread.Place.{Place}
-use Rattle.scheduler.specs.Threads.{onSemaphore, onBlock}
 use Rattle.scheduler.specs.Orders.{lineAt}
 use Rattle.blocks.specs.Pools.{blocksOf, freeBlocks}
 use Rattle.calls.specs.Refusals.{finishedb}
 use Rattle.calls.specs.Statuses as Statuses
 use Rattle.kernel.specs.declared.Kernel.{Kernel}
 use Rattle.kernel.specs.Tables.{threadOf, heldAt, semaphoreAt, poolAt}
-use Rattle.kernel.specs.Semaphores.{semaphorePlace}
-use Rattle.kernel.specs.Pools.{poolPlace}
 use Rattle.kernel.specs.Sound.{Sound}
+use Rattle.kernel.specs.Kinds.{Kind, placeOf}
+use Rattle.kernel.specs.Roles.{rowOf}
 use Rattle.claims.specs.Lists.{Made, answer, next, after}
 use Rattle.claims.specs.Rolls.{onb, takesb, doneb, gave}
 
@@ -28,36 +26,36 @@ unfoldable pub servedb : Kernel → ℕ → Bool
 servedb x t = eqb (heldAt x t .status) Statuses.success && not (finishedb (threadOf x t))
 
 -- "gets and allocates that were served later counted when served": how many of those who waited there a call serves, whatever call it is
-unfoldable pub servedLater : Place → Kernel → Made → ℕ
-servedLater p k m = length (filter (servedb (next k m)) (lineAt (k .scheduler) p))
+unfoldable pub servedLater : Kind → ℕ → Kernel → Made → ℕ
+servedLater d n k m = length (filter (servedb (next k m)) (lineAt (k .scheduler) (placeOf d n)))
 
 -- "served gets", "served allocates": how many a list of calls serves there, at once or later
-unfoldable pub served : Place → Kernel → List Made → ℕ
-served p k [] = 0
-served p k (m ∷ ms) = oneIf (takesb p m && doneb (answer k m)) + servedLater p k m + served p (next k m) ms
+unfoldable pub served : Kind → ℕ → Kernel → List Made → ℕ
+served d n k [] = 0
+served d n k (m ∷ ms) = oneIf (takesb d n m && doneb (answer k m)) + servedLater d n k m + served d n (next k m) ms
 
 -- ---- "since creation": the history of an object ends with its delete
--- a delete of the semaphore or pool
-unfoldable pub deletesb : Place → Made → Bool
-deletesb p m = onb p m (λ n. (eqb (p .state) onSemaphore && eqb n 17) || (eqb (p .state) onBlock && eqb n 34))
+-- a delete of the object
+unfoldable pub deletesb : Kind → ℕ → Made → Bool
+deletesb d n m = onb n m (rowOf d .deletes)
 
 -- no delete of it succeeds in a list of calls
-abbrev pub Undeleted : Place → Kernel → List Made → Type 0
-Undeleted p k [] = Unit {0}
-Undeleted p k (m ∷ ms) = ((deletesb p m && doneb (answer k m)) ≡ false) × Undeleted p (next k m) ms
+abbrev pub Undeleted : Kind → ℕ → Kernel → List Made → Type 0
+Undeleted d n k [] = Unit {0}
+Undeleted d n k (m ∷ ms) = ((deletesb d n m && doneb (answer k m)) ≡ false) × Undeleted d n (next k m) ms
 
 -- ---- the accounts of a list of calls
 pub record SemaphoreAccount (n start : ℕ) (k : Kernel) (ms : List Made) : Type 0 where
   -- nothing is lost by taking off: no more gets are served than the start and the puts allow
-  pub enough : served (semaphorePlace n) k ms ≤ start + gave (semaphorePlace n) k ms
+  pub enough : served Kind.semaphore n k ms ≤ start + gave Kind.semaphore n k ms
   -- "its start plus puts less served gets, modulo 2^32"
-  pub count : semaphoreAt (after k ms) n .count ≡ (start + gave (semaphorePlace n) k ms - served (semaphorePlace n) k ms) % 4294967296
+  pub count : semaphoreAt (after k ms) n .count ≡ (start + gave Kind.semaphore n k ms - served Kind.semaphore n k ms) % 4294967296
 
 pub record PoolAccount (n start : ℕ) (k : Kernel) (ms : List Made) : Type 0 where
   -- no more allocates are served than the start and the releases allow
-  pub enough : served (poolPlace n) k ms ≤ start + gave (poolPlace n) k ms
+  pub enough : served Kind.pool n k ms ≤ start + gave Kind.pool n k ms
   -- "the total plus releases less served allocates"
-  pub free : poolAt (after k ms) n .free ≡ start + gave (poolPlace n) k ms - served (poolPlace n) k ms
+  pub free : poolAt (after k ms) n .free ≡ start + gave Kind.pool n k ms - served Kind.pool n k ms
   -- so many blocks are listed as free
   pub listed : length (freeBlocks (poolAt (after k ms) n)) ≡ poolAt (after k ms) n .free
   -- the total stays what it was
@@ -67,15 +65,15 @@ pub record PoolAccount (n start : ℕ) (k : Kernel) (ms : List Made) : Type 0 wh
 pub record Accounts : Type 0 where
   -- call 16 creates a semaphore with a start of 32 bits
   pub semaphore : (k : Kernel) → Sound k → (m : Made) → m .number ≡ 16 → m .b < 4294967296 → doneb (answer k m) ≡ true
-      → (ms : List Made) → Undeleted (semaphorePlace (m .a)) (next k m) ms → SemaphoreAccount (m .a) (m .b) (next k m) ms
+      → (ms : List Made) → Undeleted Kind.semaphore (m .a) (next k m) ms → SemaphoreAccount (m .a) (m .b) (next k m) ms
   -- call 33 creates a pool, all of whose blocks are free
   pub pool : (k : Kernel) → Sound k → (m : Made) → m .number ≡ 33 → doneb (answer k m) ≡ true
-      → (ms : List Made) → Undeleted (poolPlace (m .a)) (next k m) ms → PoolAccount (m .a) (blocksOf (poolAt (next k m) (m .a))) (next k m) ms
+      → (ms : List Made) → Undeleted Kind.pool (m .a) (next k m) ms → PoolAccount (m .a) (blocksOf (poolAt (next k m) (m .a))) (next k m) ms
   -- the total is that of the call's arguments: "blocks = total / (block bytes + 4), rounded down"
   pub poolTotal : (k : Kernel) → Sound k → (m : Made) → m .number ≡ 33 → doneb (answer k m) ≡ true → blocksOf (poolAt (next k m) (m .a)) ≡ m .c / (m .b + 4)
   -- from any sound tables in which it is created a semaphore has its present count for a start
   pub semaphoreFrom : (k : Kernel) → Sound k → (n : ℕ) → semaphoreAt k n .created ≡ true → semaphoreAt k n .count < 4294967296
-      → (ms : List Made) → Undeleted (semaphorePlace n) k ms → SemaphoreAccount n (semaphoreAt k n .count) k ms
+      → (ms : List Made) → Undeleted Kind.semaphore n k ms → SemaphoreAccount n (semaphoreAt k n .count) k ms
   -- and a pool its free blocks, its list having its 64 slots
   pub poolFrom : (k : Kernel) → Sound k → (n : ℕ) → poolAt k n .created ≡ true → length (poolAt k n .list) ≡ 64
-      → (ms : List Made) → Undeleted (poolPlace n) k ms → PoolAccount n (poolAt k n .free) k ms
+      → (ms : List Made) → Undeleted Kind.pool n k ms → PoolAccount n (poolAt k n .free) k ms

@@ -7,8 +7,12 @@ pub mod Semaphores
 pub mod Queues
 pub mod Groups
 pub mod Pools
+pub mod Kinds
 pub mod Sound
 pub mod Views
 pub mod General
+pub mod Edits
+pub mod Roles
+pub mod Effects
 pub mod Claims
 pub mod Runs

@@ -1,171 +1,206 @@
--- A roll beside the tables: what it says after a change that leaves the line still, and after one member has left.
+-- A roll beside the tables: what it says after a call by which some leave the line and others join it at the end.
 use mathlib.Core.Path.{_≡_, refl, sym, ap, _∙_}
-use mathlib.Core.List.{List, [], _∷_, _++_, append-nil}
-use mathlib.Core.Bool.{Bool, true, false}
-use Prim.Native.Nat.{ℕ, _<_}
+use mathlib.Core.List.{List, [], _∷_, _++_, append-assoc, append-nil}
+use mathlib.Core.Bool.{Bool, true, _&&_, not}
+use Prim.Native.Nat.{ℕ, zero, suc, _<_, _≤_, _+_, _-_}
 use native.Mathlib.Omega.{arith}
-use lib.Dec.{eqb}
-use lib.Seq.{getD-set-other}
-use borrow.Author.Tests.{eq-eqb, ne-eqb}
-use Rattle.lines.specs.Logic.{if_then_else_}
-use Rattle.lines.specs.Lists.{filter, without, count, Begins}
-use Rattle.lines.proofs.Laws.Logic.{by-eq}
+use lib.Dec.{eqb, ltb}
+use Rattle.lines.specs.Logic.{oneIf}
+use Rattle.lines.specs.Lists.{filter, without, onlyIf, count, Begins}
+use Rattle.lines.proofs.Laws.Logic.{by-test, by-eq}
 use Rattle.lines.proofs.Laws.Lists
 use Rattle.scheduler.specs.declared.thread.Thread.{Thread}
 use Rattle.scheduler.specs.declared.thread.Place.{Place}
-use Rattle.scheduler.specs.Threads.{placedb, awake}
-use Rattle.scheduler.specs.Orders.{lineAt, woken}
-use Rattle.scheduler.specs.Sound.{fitb, Steady}
+use Rattle.scheduler.specs.Threads.{pausedb}
+use Rattle.scheduler.specs.Sound.{Steady}
+use Rattle.scheduler.specs.Orders.{lineAt, firstAt}
 use Rattle.scheduler.proofs.Laws.Orders
-use Rattle.scheduler.proofs.Laws.Choosing
-use Rattle.scheduler.proofs.Laws.States
-use Rattle.calls.specs.declared.held.Held.{Held}
-use Rattle.calls.specs.Held.{noHeld, holding}
+use Rattle.waiting.specs.Ticks.{forever, timedb, lastTickb}
 use Rattle.kernel.specs.declared.Kernel.{Kernel}
-use Rattle.kernel.specs.Tables.{threadOf, heldAt, withScheduler, withHeld, given}
-use Rattle.kernel.specs.Answers.{carried}
-use Rattle.kernel.specs.Waits.{endWait}
-use Rattle.claims.specs.Rolls.{Entry, names, each, unnamed}
-use Rattle.claims.proofs.Laws.Still
+use Rattle.kernel.specs.Tables.{threadOf, heldAt}
+use Rattle.kernel.specs.Waits.{oneMore}
+use Rattle.kernel.specs.Edits.{Edit, counted, movers, leavesb}
+use Rattle.kernel.specs.Edits.Edit.{moves, alters, counts, ranks, stores, sets}
+use Rattle.kernel.specs.Effects.{tickOf, ticksBelow, tickEffect}
+use Rattle.kernel.proofs.Laws.Lines
+use Rattle.kernel.proofs.Laws.Fates
+use Rattle.claims.specs.Rolls.{Entry, names, rollOf, rest, each, unnamed, ticked}
 
--- each member's ticks are those of its wait
-abbrev pub Agrees : Kernel → List Entry → Type 0
-Agrees k [] = Unit {0}
-Agrees k (e ∷ es) = (threadOf k (e .thread) .ticks ≡ e .ticks) × Agrees k es
-
+-- the line begins with the roll, and each member's ticks are those of its wait
 pub record Rolls (p : Place) (k : Kernel) (r : List Entry) : Type 0 where
   pub begins : Begins (names r) (lineAt (k .scheduler) p)
-  pub agrees : Agrees k r
+  pub agrees : r ≡ rollOf k (names r)
+
+-- from tables k to tables x those in ts leave the line, and who stays keeps what it holds, with one tick less where it is in cs
+pub record Leaves (p : Place) (k x : Kernel) (ts cs : List ℕ) : Type 0 where
+  pub line : Begins (Lines.less ts (lineAt (k .scheduler) p)) (lineAt (x .scheduler) p)
+  pub gone : (u : ℕ) → 0 < count u ts → count u (lineAt (x .scheduler) p) ≡ 0
+  pub kept : (u : ℕ) → 0 < count u (lineAt (k .scheduler) p) → count u ts ≡ 0 → Fates.Kept k x u (count u cs)
 
 -- from tables k to tables x the roll r goes over into s: whom it strikes out is gone, and who stays holds what it held
-pub record Goes (p : Place) (k x : Kernel) (r s : List Entry) : Type 0 where
+pub record Passes (p : Place) (k x : Kernel) (r s : List Entry) : Type 0 where
   pub rolls : Rolls p x s
   pub gone : (u : ℕ) → 0 < count u (names r) → count u (names s) ≡ 0 → count u (lineAt (x .scheduler) p) ≡ 0
   pub held : (u : ℕ) → 0 < count u (names s) → heldAt x u ≡ heldAt k u
-
--- other tables in which each member has the same ticks
-pub agrees-same : (k x : Kernel) (r : List Entry) → ((u : ℕ) → 0 < count u (names r) → threadOf x u .ticks ≡ threadOf k u .ticks) → Agrees k r → Agrees x r
-unfolding names
-agrees-same k x [] h a = tt
-agrees-same k x (e ∷ es) h a =
-    (h (e .thread) (let c = Lists.count-here (e .thread) (names es) in omega (arith, c)) ∙ a .0, agrees-same k x es (λ u c. h u (Still.in-tail (e .thread) (names es) u c)) (a .1))
 
 -- a member of the roll stands in the line
 pub member : (p : Place) (k : Kernel) (r : List Entry) → Rolls p k r → (u : ℕ) → 0 < count u (names r) → 0 < count u (lineAt (k .scheduler) p)
 member p k r R u c = let m = Lists.begins-count (names r) (lineAt (k .scheduler) p) (R .begins) u in omega (arith, c, m)
 
-pub goes-still : (p : Place) (k x : Kernel) (r : List Entry) → Still.Still p k x → Rolls p k r → Goes p k x r r
-goes-still p k x r a R =
-    record {
-      rolls = record {
-        begins = Still.begins-then (names r) (lineAt (k .scheduler) p) (lineAt (x .scheduler) p) (R .begins) (a .begins);
-        agrees = agrees-same k x r (λ u c. a .ticks u (member p k r R u c)) (R .agrees);
-      };
-      gone = λ u c z. absurd (omega (arith, c, z));
-      held = λ u c. a .held u (member p k r R u c);
-    }
+-- ---- rolls of the tables
+pub names-roll : (k : Kernel) (xs : List ℕ) → names (rollOf k xs) ≡ xs
+unfolding names rollOf
+names-roll k [] = refl
+names-roll k (u ∷ us) = ap {B = List ℕ} (λ l. u ∷ l) (names-roll k us)
 
--- ---- one thread leaves the line
-pub record Leaves (p : Place) (k x : Kernel) (t : ℕ) : Type 0 where
-  pub steady : Steady (x .scheduler)
-  pub line : lineAt (x .scheduler) p ≡ without t (lineAt (k .scheduler) p)
-  pub ticks : (u : ℕ) → (u ≡ t → ⊥) → threadOf x u .ticks ≡ threadOf k u .ticks
-  pub held : (u : ℕ) → (u ≡ t → ⊥) → heldAt x u ≡ heldAt k u
+in-tail : (u : ℕ) (us : List ℕ) (v : ℕ) → 0 < count v us → 0 < count v (u ∷ us)
+unfolding count
+in-tail u us v c = omega (arith, c)
 
-pub leaves-given : (p : Place) (k : Kernel) → Steady (k .scheduler) → (t : ℕ) (th : Thread) (h : Held) → t < 32 → fitb th ≡ true → placedb p th ≡ false → Leaves p k (given k t th h) t
-unfolding given withHeld withScheduler heldAt
-leaves-given p k S t th h small fit away =
-    record {
-      steady = Orders.moved-steady (k .scheduler) S t th small fit;
-      line = Orders.moved-line (k .scheduler) S t th small fit p ∙ rw (away, append-nil);
-      ticks = λ u n. ap (λ (y : Thread). y .ticks) (Orders.moved-other (k .scheduler) S t th small u n);
-      held = λ u n. getD-set-other (k .held) t u h noHeld n;
-    }
+pub stands-last : (xs : List ℕ) (t : ℕ) → 0 < count t (xs ++ (t ∷ []))
+stands-last xs t = omega (arith, Lists.count-append t xs (t ∷ []), Lists.count-here t [])
 
--- its wait ends
-pub leaves-end : (p : Place) → 4 < p .state → (k : Kernel) → Steady (k .scheduler) → (t status : ℕ) (words : List ℕ) → threadOf k t .created ≡ true → Leaves p k (endWait k t status words) t
-unfolding endWait woken given
-leaves-end p w k S t status words made =
-    let small = States.created-small (k .scheduler) S t made in
-    leaves-given p k S t (awake (threadOf k t)) (holding status words) small (States.fit-awake (threadOf k t) made (S .fit t small))
-    (Still.other-state p (awake (threadOf k t)) (λ z. let l = States.awake-state (threadOf k t) in omega (arith, l, z, w)))
+-- in other tables, where each member has the same ticks
+roll-same : (k x : Kernel) (xs : List ℕ) → ((u : ℕ) → 0 < count u xs → threadOf x u .ticks ≡ threadOf k u .ticks) → rollOf k xs ≡ rollOf x xs
+unfolding rollOf
+roll-same k x [] h = refl
+roll-same k x (u ∷ us) h =
+    let t = h u (omega (arith, Lists.count-here u us)) in
+    let more = roll-same k x us (λ v c. h v (in-tail u us v c)) in
+    λ i. record { thread = u; ticks = sym t i } ∷ more i
 
--- the choice follows
-pub leaves-carried : (p : Place) (k x : Kernel) (t status : ℕ) (words ended : List ℕ) → Leaves p k x t → Leaves p k (carried x status words ended .kernel) t
-unfolding carried withScheduler heldAt
-leaves-carried p k x t status words ended a =
-    record {
-      steady = Choosing.rescheduled-steady (x .scheduler) (a .steady) false;
-      line = Choosing.rescheduled-line (x .scheduler) (a .steady) false p ∙ a .line;
-      ticks = λ u n. Choosing.rescheduled-keeps (x .scheduler) (a .steady) (λ y. y .ticks) Still.mark-ticks false u ∙ a .ticks u n;
-      held = a .held;
-    }
+roll-unnamed : (k : Kernel) (t : ℕ) (xs : List ℕ) → each (unnamed t) (rollOf k xs) ≡ rollOf k (without t xs)
+unfolding each unnamed rollOf without filter
+roll-unnamed k t [] = refl
+roll-unnamed k t (u ∷ us) =
+    by-test (eqb u t) (λ q. rw q (roll-unnamed k t us)) (λ q. rw q (ap (λ (l : List Entry). record { thread = u; ticks = threadOf k u .ticks } ∷ l) (roll-unnamed k t us)))
 
--- ---- the thread named is struck out
-names-append : (r s : List Entry) → names (r ++ s) ≡ names r ++ names s
-unfolding names
-names-append [] s = refl
-names-append (e ∷ es) s = ap {B = List ℕ} (λ l. e .thread ∷ l) (names-append es s)
+-- ---- the roll after those in ts have left
+module _ (p : Place) (k x : Kernel) (ts cs : List ℕ) (A : Leaves p k x ts cs) (r : List Entry) (R : Rolls p k r) (s : List Entry) where
+  abbrev ys : List ℕ
+  ys = Lines.less ts (names r)
 
-names-unnamed : (t : ℕ) (r : List Entry) → names (each (unnamed t) r) ≡ without t (names r)
-unfolding each unnamed names without filter
-names-unnamed t [] = refl
-names-unnamed t (e ∷ es) =
-    by-eq (e .thread) t
-    (λ q. ap (λ (b : Bool). names ((if b then [] else e ∷ []) ++ each (unnamed t) es)) (eq-eqb (e .thread) t q) ∙ names-unnamed t es
-    ∙ sym (ap (λ (y : ℕ). without t (y ∷ names es)) q ∙ Lists.without-here t (names es)))
-    (λ q. ap (λ (b : Bool). names ((if b then [] else e ∷ []) ++ each (unnamed t) es)) (ne-eqb (e .thread) t q) ∙ ap {B = List ℕ} (λ l. e .thread ∷ l) (names-unnamed t es)
-    ∙ sym (Lists.without-there t (e .thread) (names es) q))
+  -- a member that is left was one, and has not left
+  stays : (u : ℕ) → 0 < count u ys → Fates.Kept k x u (count u cs)
+  stays u c =
+      by-eq (count u ts) 0
+      (λ z. A .kept u (member p k r R u (let y = Lines.less-kept ts (names r) u z in omega (arith, c, y))) z)
+      (λ z. absurd (let y = Lines.less-gone ts (names r) u (omega (arith, z)) in omega (arith, c, y)))
 
-agrees-append : (k : Kernel) (r s : List Entry) → Agrees k r → Agrees k s → Agrees k (r ++ s)
-agrees-append k [] s a b = b
-agrees-append k (e ∷ es) s a b = (a .0, agrees-append k es s (a .1) b)
+  pub passes : s ≡ rollOf x ys → Passes p k x r s
+  passes q =
+      let w = R .begins .0 in
+      let v = A .line .0 in
+      let n : names s ≡ ys = ap names q ∙ names-roll x ys in
+      record {
+        rolls = record {
+          begins = (
+            Lines.less ts w ++ v,
+            A .line .1 ∙ ap (λ (l : List ℕ). Lines.less ts l ++ v) (R .begins .1) ∙ ap (λ (l : List ℕ). l ++ v) (Lines.less-append ts (names r) w)
+                ∙ append-assoc ys (Lines.less ts w) v ∙ ap (λ (l : List ℕ). l ++ (Lines.less ts w ++ v)) (sym n),
+          );
+          agrees = q ∙ ap (rollOf x) (sym n);
+        };
+        gone = λ u c z. by-eq (count u ts) 0
+            (λ i. absurd (let y = Lines.less-kept ts (names r) u i in let same = ap (count u) n in omega (arith, c, z, y, same)))
+            (λ i. A .gone u (omega (arith, i)));
+        held = λ u c. stays u (let same = ap (count u) n in omega (arith, c, same)) .held;
+      }
 
--- the ticks of those that are left
-agrees-unnamed : (k x : Kernel) (t : ℕ) (r : List Entry) → ((u : ℕ) → (u ≡ t → ⊥) → threadOf x u .ticks ≡ threadOf k u .ticks) → Agrees k r → Agrees x (each (unnamed t) r)
-unfolding each unnamed
-agrees-unnamed k x t [] h a = tt
-agrees-unnamed k x t (e ∷ es) h a =
-    agrees-append x (if eqb (e .thread) t then [] else e ∷ []) (each (unnamed t) es)
-    (by-eq (e .thread) t
-    (λ q. rw (eq-eqb (e .thread) t q) tt)
-    (λ q. rw (ne-eqb (e .thread) t q) (h (e .thread) q ∙ a .0, tt)))
-    (agrees-unnamed k x t es h (a .1))
+  -- where no ticks are counted
+  pub passes-untimed : cs ≡ [] → s ≡ rollOf k ys → Passes p k x r s
+  passes-untimed z q = passes (q ∙ roll-same k x ys (λ u c. let t = stays u c .ticks in let i = ap (count u) z in let y = Lines.count-none u in omega (arith, t, i, y)))
 
-pub goes-named : (p : Place) (k x : Kernel) (t : ℕ) (r : List Entry) → Leaves p k x t → Rolls p k r → Goes p k x r (each (unnamed t) r)
-goes-named p k x t r a R =
-    record {
-      rolls = record {
-        begins = rw (names-unnamed t r, a .line, ← append-nil (without t (lineAt (k .scheduler) p))) (Lists.begins-moved (names r) (lineAt (k .scheduler) p) t [] (R .begins));
-        agrees = agrees-unnamed k x t r (a .ticks) (R .agrees);
-      };
-      gone = λ u c z. by-eq u t
-          (λ q. ap (λ (v : ℕ). count v (lineAt (x .scheduler) p)) q ∙ ap (count t) (a .line) ∙ Lists.count-without t (lineAt (k .scheduler) p))
-          (λ q. absurd (let y = Lists.count-others t u (names r) q in let w = ap (count u) (names-unnamed t r) in omega (arith, c, z, y, w)));
-      held = λ u c. a .held u (λ q. let y = Lists.count-without t (names r) in let w = ap (count u) (names-unnamed t r) in let z = ap (λ (v : ℕ). count v (without t (names r))) q in omega (arith, c, y, w, z));
-    }
+-- nobody leaves, or the first, or the thread named
+pub passes-same : (p : Place) (k x : Kernel) (r : List Entry) → Leaves p k x [] [] → Rolls p k r → Passes p k x r r
+passes-same p k x r A R = passes-untimed p k x [] [] A r R r refl (R .agrees ∙ ap (rollOf k) (sym (Lines.less-none (names r))))
 
--- ---- the first is struck out as served
-pub goes-first : (p : Place) (k x : Kernel) → Steady (k .scheduler) → (e : Entry) (es : List Entry) → Leaves p k x (e .thread) → Rolls p k (e ∷ es) → Goes p k x (e ∷ es) es
-unfolding names
-goes-first p k x S e es a R =
-    let t = e .thread in
+pub passes-first : (p : Place) (k x : Kernel) → Steady (k .scheduler) → (r : List Entry) (t : ℕ) → 0 < count t (names r) → Leaves p k x (firstAt (k .scheduler) p ∷ []) [] → Rolls p k r → Passes p k x r (rest r)
+unfolding names count rest rollOf firstAt
+passes-first p k x S [] t c A R = absurd (omega (arith, c))
+passes-first p k x S (e ∷ es) t c A R =
+    let u = e .thread in
     let l = lineAt (k .scheduler) p in
-    let more = R .begins .0 in
-    let shape : l ≡ t ∷ (names es ++ more) = R .begins .1 in
-    let here = Lists.count-here t (names es ++ more) in
-    let most = Orders.line-once (k .scheduler) S t p in
-    let same = ap (count t) shape in
-    let one : count t (t ∷ (names es ++ more)) ≡ 1 = omega (arith, here, most, same) in
-    let split = Lists.count-append t (names es) more in
-    let none : count t (names es) ≡ 0 = omega (arith, here, one, split) in
-    record {
-      rolls = record {
-        begins = (more, a .line ∙ ap (without t) shape ∙ Lists.without-first t (names es ++ more) one);
-        agrees = agrees-same k x es (λ u c. a .ticks u (λ q. let y = ap (λ (v : ℕ). count v (names es)) q in omega (arith, c, y, none))) (R .agrees .1);
-      };
-      gone = λ u c z. by-eq u t
-          (λ q. ap (λ (v : ℕ). count v (lineAt (x .scheduler) p)) q ∙ ap (count t) (a .line) ∙ Lists.count-without t l)
-          (λ q. absurd (let y = Lists.count-there u t (names es) (λ w. q (sym w)) in omega (arith, c, z, y)));
-      held = λ u c. a .held u (λ q. let y = ap (λ (v : ℕ). count v (names es)) q in omega (arith, c, y, none));
-    }
+    let one : count u (u ∷ names es) ≡ 1 = let y = Lists.count-here u (names es) in let w = Lists.begins-count (u ∷ names es) l (R .begins) u in let v = Orders.line-once (k .scheduler) S u p in omega (arith, y, w, v) in
+    passes-untimed p k x (u ∷ []) [] (rw (Lists.begins-first u (names es) l (R .begins)) at A) (e ∷ es) R es refl
+    (ap rest (R .agrees) ∙ ap (rollOf k) (sym (Lines.less-one u (u ∷ names es) ∙ Lists.without-first u (names es) one)))
+
+pub passes-named : (p : Place) (k x : Kernel) (ts : List ℕ) (t : ℕ) (r : List Entry) → Leaves p k x ts [] → Rolls p k r → without t (names r) ≡ Lines.less ts (names r) → Passes p k x r (each (unnamed t) r)
+passes-named p k x ts t r A R same = passes-untimed p k x ts [] A r R _ refl (ap (each (unnamed t)) (R .agrees) ∙ roll-unnamed k t (names r) ∙ ap (rollOf k) same)
+
+-- ---- a tick
+-- a list read off the edits of a tick, in which each thread of which b holds stands once
+module _ (k : Kernel) (f : List Edit → List ℕ) (b : Thread → Bool) (none : f [] ≡ []) (clock : (c : ℕ) → f (sets c ∷ []) ≡ []) (more : (es fs : List Edit) → f (es ++ fs) ≡ f es ++ f fs) (alone : (th : Thread) (t : ℕ) → f (tickOf th t) ≡ onlyIf (b th) t) where
+  one-more : (n u : ℕ) → count u (f (ticksBelow (suc n) k)) ≡ count u (f (ticksBelow n k)) + count u (onlyIf (b (threadOf k n)) n)
+  unfolding ticksBelow
+  one-more n u = ap (count u) (more (ticksBelow n k) (tickOf (threadOf k n) n) ∙ ap (λ (l : List ℕ). f (ticksBelow n k) ++ l) (alone (threadOf k n) n)) ∙ Lists.count-append u (f (ticksBelow n k)) (onlyIf (b (threadOf k n)) n)
+
+  ticks-past : (n u : ℕ) → n ≤ u → count u (f (ticksBelow n k)) ≡ 0
+  unfolding ticksBelow
+  ticks-past zero u l = ap (count u) none ∙ Lines.count-none u
+  ticks-past (suc n) u l = let c = ticks-past n u (omega (arith, l)) in let d = Lists.count-not-only n u (b (threadOf k n)) (λ q. omega (arith, l, q)) in omega (arith, one-more n u, c, d)
+
+  ticks-below : (n u : ℕ) → u < n → count u (f (ticksBelow n k)) ≡ oneIf (b (threadOf k u))
+  ticks-below zero u l = absurd (omega (arith, l))
+  ticks-below (suc n) u l =
+      by-eq u n
+      (λ q. let d = ap (λ (v : ℕ). count v (onlyIf (b (threadOf k n)) n)) q ∙ Lists.count-only n (b (threadOf k n)) in
+      let z = ap (λ (v : ℕ). oneIf (b (threadOf k v))) q in omega (arith, one-more n u, ticks-past n u (omega (arith, q)), d, z))
+      (λ q. let c = ticks-below n u (omega (arith, l, q)) in omega (arith, one-more n u, c, Lists.count-not-only n u (b (threadOf k n)) q))
+
+  tick-count : (u : ℕ) → u < 32 → count u (f (tickEffect k .edits)) ≡ oneIf (b (threadOf k u))
+  unfolding tickEffect
+  tick-count u l = ap (count u) (more (ticksBelow 32 k) (sets (oneMore (k .clock)) ∷ []) ∙ ap (λ (l' : List ℕ). f (ticksBelow 32 k) ++ l') (clock (oneMore (k .clock))) ∙ append-nil (f (ticksBelow 32 k))) ∙ ticks-below 32 u l
+
+-- who leaves the line of a place by a tick, and who is counted
+left-by : (p : Place) (th : Thread) (t : ℕ) → movers (leavesb p) (tickOf th t) ≡ onlyIf (lastTickb th) t
+unfolding movers leavesb tickOf
+left-by p th t = by-test (lastTickb th) (λ e. rw e) (λ e. by-test (timedb th) (λ y. rw (e, y)) (λ y. rw (e, y)))
+
+counted-by : (th : Thread) (t : ℕ) → counted (tickOf th t) ≡ onlyIf (not (lastTickb th) && timedb th) t
+unfolding counted tickOf
+counted-by th t = by-test (lastTickb th) (λ e. rw e) (λ e. by-test (timedb th) (λ y. rw (e, y)) (λ y. rw (e, y)))
+
+pub counted-append : (es fs : List Edit) → counted (es ++ fs) ≡ counted es ++ counted fs
+unfolding counted
+counted-append [] fs = refl
+counted-append (moves t m ∷ es) fs = counted-append es fs
+counted-append (alters t f ∷ es) fs = counted-append es fs
+counted-append (counts t ∷ es) fs = ap (λ (l : List ℕ). t ∷ l) (counted-append es fs)
+counted-append (ranks d n ∷ es) fs = counted-append es fs
+counted-append (stores d n x ∷ es) fs = counted-append es fs
+counted-append (sets c ∷ es) fs = counted-append es fs
+
+module _ (p : Place) (k x : Kernel) where
+  abbrev ts : List ℕ
+  ts = movers (leavesb p) (tickEffect k .edits)
+
+  abbrev cs : List ℕ
+  cs = counted (tickEffect k .edits)
+
+  -- a waiter, and its ticks afterwards if it has not left
+  abbrev Ticks : ℕ → Type 0
+  Ticks u = (u < 32) × (pausedb (threadOf k u) ≡ true) × (count u ts ≡ 0 → threadOf x u .ticks ≡ threadOf k u .ticks - count u cs)
+
+  roll-ticked : (xs : List ℕ) → ((u : ℕ) → 0 < count u xs → Ticks u) → each ticked (rollOf k xs) ≡ rollOf x (Lines.less ts xs)
+  unfolding each ticked rollOf Lines.less filter movers leavesb counted lastTickb timedb oneIf
+  roll-ticked [] h = refl
+  roll-ticked (u ∷ us) h =
+      let (small, paused, left) = h u (omega (arith, Lists.count-here u us)) in
+      let rest = roll-ticked us (λ v c. h v (in-tail u us v c)) in
+      let n = threadOf k u .ticks in
+      let a = tick-count k (movers (leavesb p)) lastTickb refl (λ c. refl) (Lines.movers-append (leavesb p)) (left-by p) u small in
+      let c = tick-count k counted (λ th. not (lastTickb th) && timedb th) refl (λ i. refl) counted-append counted-by u small in
+      by-test (eqb n forever)
+      (λ f. let z : count u ts ≡ 0 = a ∙ rw (paused, f) in let y : count u cs ≡ 0 = c ∙ rw (paused, f) in
+      let t : n ≡ threadOf x u .ticks = omega (arith, left z, y) in
+      rw (f, z) (λ i. record { thread = u; ticks = t i } ∷ rest i))
+      (λ f. by-test (ltb n 2)
+      (λ g. let z : count u ts ≡ 1 = a ∙ rw (paused, f, g) in rw (f, g, z) rest)
+      (λ g. let z : count u ts ≡ 0 = a ∙ rw (paused, f, g) in let y : count u cs ≡ 1 = c ∙ rw (paused, f, g) in
+      let t : n - 1 ≡ threadOf x u .ticks = omega (arith, left z, y) in
+      rw (f, g, z) (λ i. record { thread = u; ticks = t i } ∷ rest i)))
+
+  pub passes-ticked : Leaves p k x ts cs → (r : List Entry) → ((u : ℕ) → 0 < count u (names r) → (u < 32) × (pausedb (threadOf k u) ≡ true)) → Rolls p k r → Passes p k x r (each ticked r)
+  passes-ticked A r W R =
+      passes p k x ts cs A r R _ (ap (each ticked) (R .agrees) ∙ roll-ticked (names r) (λ u c. (W u c .0, W u c .1, λ z. A .kept u (member p k r R u c) z .ticks)))

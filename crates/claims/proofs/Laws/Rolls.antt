@@ -1,260 +1,293 @@
--- Demand 3 over every list of calls.
+-- Demand 3 for one call: while a thread's wait lasts, the roll goes over into the roll after the call.
 use mathlib.Core.Path.{_≡_, refl, sym, ap, _∙_, subst}
 use mathlib.Core.List.{List, [], _∷_, _++_}
 use mathlib.Core.Bool.{Bool, true, false, _&&_, _||_, not}
 use Prim.Native.Nat.{ℕ, _<_}
 use native.Mathlib.Omega.{arith}
-use lib.ListN.{List·getD-eq-default}
-use lib.Dec.{eqb, ltb}
-use borrow.Author.Tests.{eqb-true, eq-eqb, ltb-true, ltb-false}
-use Rattle.lines.specs.Logic.{if_then_else_, oneIf}
-use Rattle.lines.specs.Lists.{count}
-use Rattle.lines.proofs.Laws.Logic.{by-test, by-choice, never, and-left, and-right, and-in, or-rest, implies-out}
+use lib.Dec.{eqb}
+use lib.ListN.{getD, set}
+use lib.Seq.{getD-set-same}
+use borrow.Author.Tests.{eqb-true, ltb-true}
+use Rattle.lines.specs.Logic.{if_then_else_, implies}
+use Rattle.lines.specs.Lists.{count, without, Begins}
+use Rattle.lines.proofs.Laws.Logic.{by-test, by-eq, by-choice, never, and-left, and-right, and-in, or-rest, implies-out}
 use Rattle.lines.proofs.Laws.Lists
+use Rattle.scheduler.specs.declared.thread.Thread.{Thread}
 use Rattle.scheduler.specs.declared.thread.Place.{Place}
-use Rattle.scheduler.specs.Threads.{standsb, numberOf, placedb}
-use Rattle.scheduler.specs.Orders.{lineAt}
-use Rattle.scheduler.proofs.Laws.Orders
+use Rattle.scheduler.specs.Threads.{onQueue, placedb, inState}
+use Rattle.scheduler.specs.Orders.{lineAt, firstAt}
 use Rattle.scheduler.proofs.Laws.States
-use Rattle.objects.specs.declared.semaphore.Semaphore.{Semaphore}
-use Rattle.objects.specs.declared.queue.Queue.{Queue}
-use Rattle.objects.specs.Semaphores.{noSemaphore}
-use Rattle.blocks.specs.declared.pool.Pool.{Pool}
-use Rattle.blocks.specs.Pools.{noPool}
-use Rattle.objects.specs.Queues.{noQueue, emptyb, fullb, roomb}
-use Rattle.objects.proofs.Laws.Queues as Records
 use Rattle.calls.specs.declared.held.Held.{Held}
-use Rattle.calls.specs.declared.call.Decoded.{Decoded}
-use Rattle.calls.specs.declared.call.Decoded.the-variants.{Known, Unknown}
-use Rattle.calls.specs.Calls.{decoded}
+use Rattle.calls.specs.Held.{noHeld, holding}
+use Rattle.calls.specs.Refusals.{finishedb}
 use Rattle.calls.specs.Statuses as Statuses
-use Rattle.waiting.specs.Fit.{blankFrom, waitsOnb, semaphoreWaitb, queueWaitb, poolWaitb}
+use Rattle.waiting.specs.Fit.{blankFrom, waitsOnb, sendsb, statusFitb, wordsFitb, senderFitb, requestFitb, unheldFitb, heldFitb}
 use Rattle.kernel.specs.declared.Kernel.{Kernel}
 use Rattle.kernel.specs.declared.Answer.{Answer}
-use Rattle.kernel.specs.Tables.{threadOf, runnerOf, heldAt, semaphoreAt, queueAt, poolAt}
+use Rattle.kernel.specs.Tables.{threadOf, heldAt, withHeld, withScheduler}
 use Rattle.kernel.specs.Answers.{Outcome, answerOf, refused}
-use Rattle.kernel.specs.General as General
-use Rattle.kernel.specs.Queues as Queues
 use Rattle.kernel.specs.Sound.{Sound}
-use Rattle.kernel.proofs.Laws.Keeps
-use Rattle.kernel.proofs.Laws.Sound.{passes}
-use Rattle.kernel.proofs.Laws.Claims.{runner-there, claims}
+use Rattle.kernel.specs.Kinds.{Kind, sizeOf, stateOn, placeOf}
+use Rattle.kernel.specs.Sound.{Fit}
+use Rattle.kernel.specs.Edits.{Move, Edit, Success, Effect, statusOf, statusBy, heldBy, startsb, leavesb, movers, counted, edited, applied, carriedOut}
+use Rattle.kernel.specs.Edits.Cause.{served}
+use Rattle.kernel.specs.Edits.Move.{ends, starts, stops, turns}
+use Rattle.kernel.specs.Edits.Edit.{moves}
+use Rattle.kernel.specs.Edits.Success.{done, lifted, waits}
+use Rattle.kernel.specs.Roles.{rowOf, oneOf, limitOf, mayMoveb, mayb, allb}
+use Rattle.kernel.specs.Effects.{does, terminateEffect, abortEffect, rolledb, Taker, Role, givenWords}
+use Rattle.kernel.proofs.Laws.Objects
+use Rattle.kernel.proofs.Laws.Fits
+use Rattle.kernel.proofs.Laws.Held
+use Rattle.kernel.proofs.Laws.Lines
+use Rattle.kernel.proofs.Laws.Does.{Shape, Proper, Step, refuses, carries}
 use Rattle.claims.specs.Lists.{Made, answer, next}
-use Rattle.claims.specs.Rolls.{Entry, names, rollOf, upsetsb, doneb, struck, rolled, lastsb, objectb, Waits, startRoll, Calm, Kept, KeptAll}
-use Rattle.claims.proofs.Laws.Still
+use Rattle.claims.specs.Rolls.{Entry, names, rest, each, unnamed, ticked, onb, givesb, takesb, upsetsb, doneb, struck, rolled, rollOf, lastsb, Waits, startRoll, Kept, Served}
+use Rattle.claims.proofs.Laws.Steps.{stepped, target, answer-is, next-sound}
 use Rattle.claims.proofs.Laws.Members
-use Rattle.claims.proofs.Laws.Decoded.{Is, decoded-is}
-use Rattle.claims.proofs.Laws.Steps
-use Rattle.claims.proofs.Laws.Services
+use Rattle.claims.proofs.Laws.Serving
 
--- ---- a created object is in its table
-module _ (k : Kernel) (S : Sound k) (n : ℕ) where
-  pub semaphore-small : semaphoreAt k n .created ≡ true → n < 16
-  unfolding semaphoreAt noSemaphore
-  semaphore-small e =
-      by-test (ltb n 16)
-      (λ w. ltb-true n 16 w)
-      (λ w. never e (ap (λ (x : Semaphore). x .created) (List·getD-eq-default (k .semaphores) noSemaphore (let o = ltb-false n 16 w in let l = S .semaphoresSized in omega (arith, o, l)))))
-
-  pub pool-small : poolAt k n .created ≡ true → n < 4
-  unfolding poolAt noPool
-  pool-small e =
-      by-test (ltb n 4)
-      (λ w. ltb-true n 4 w)
-      (λ w. never e (ap (λ (x : Pool). x .created) (List·getD-eq-default (k .pools) noPool (let o = ltb-false n 4 w in let l = S .poolsSized in omega (arith, o, l)))))
-
--- ---- what sound tables say of an object on which somebody waits
-module _ (p : Place) (k : Kernel) (S : Sound k) (t : ℕ) (here : 0 < count t (lineAt (k .scheduler) p)) where
-  abbrev F : Keeps.Fit k
-  F = Keeps.fit-of k S
-
-  placed : placedb p (threadOf k t) ≡ true
-  unfolding oneIf
-  placed = by-test (placedb p (threadOf k t)) (λ e. e) (λ e. absurd (let z = Orders.line-count (k .scheduler) (F .steady) t p ∙ ap oneIf e in let h = here in omega (arith, h, z)))
-
-  made : threadOf k t .created ≡ true
-  made = Still.placed-made p (threadOf k t) placed
-
-  small : t < 32
-  small = States.created-small (k .scheduler) (F .steady) t made
-
-  state-is : threadOf k t .state ≡ p .state
-  unfolding placedb
-  state-is = eqb-true (threadOf k t .state) (p .state) (and-right (standsb (threadOf k t)) (eqb (threadOf k t .state) (p .state)) (and-left (standsb (threadOf k t) && eqb (threadOf k t .state) (p .state)) (eqb (numberOf (threadOf k t)) (p .number)) placed))
-
-  number-is : numberOf (threadOf k t) ≡ p .number
-  unfolding placedb
-  number-is = eqb-true (numberOf (threadOf k t)) (p .number) (and-right (standsb (threadOf k t) && eqb (threadOf k t .state) (p .state)) (eqb (numberOf (threadOf k t)) (p .number)) placed)
-
-  object-is : (state : ℕ) → p .state ≡ state → 4 < state → threadOf k t .object ≡ p .number
-  unfolding numberOf
-  object-is state z w = sym (ap (λ (b : Bool). if b then threadOf k t .priority else threadOf k t .object) (not-zero (threadOf k t .state) (state-is ∙ z))) ∙ number-is
-    where
-      not-zero : (x : ℕ) → x ≡ state → eqb x 0 ≡ false
-      not-zero x q = by-test (eqb x 0) (λ e. absurd (let y = eqb-true x 0 e in omega (arith, y, q, w))) (λ e. e)
-
-  pub semaphore-waits : p .state ≡ 6 → semaphoreWaitb (semaphoreAt k (p .number)) ≡ true
-  semaphore-waits z =
-      ap (λ (n : ℕ). semaphoreWaitb (semaphoreAt k n)) (sym (object-is 6 z (omega arith)))
-      ∙ implies-out (waitsOnb 6 (threadOf k t)) (semaphoreWaitb (semaphoreAt k (threadOf k t .object))) (Keeps.asked k (threadOf k t) (heldAt k t) (F .waits t small) .1) (Keeps.in-state 6 (threadOf k t) made (state-is ∙ z))
-
-  pub queue-waits : p .state ≡ 5 → queueWaitb (heldAt k t) (queueAt k (p .number)) ≡ true
-  queue-waits z =
-      ap (λ (n : ℕ). queueWaitb (heldAt k t) (queueAt k n)) (sym (object-is 5 z (omega arith)))
-      ∙ implies-out (waitsOnb 5 (threadOf k t)) (queueWaitb (heldAt k t) (queueAt k (threadOf k t .object))) (Keeps.asked k (threadOf k t) (heldAt k t) (F .waits t small) .0) (Keeps.in-state 5 (threadOf k t) made (state-is ∙ z))
-
-  pub pool-waits : p .state ≡ 8 → poolWaitb (poolAt k (p .number)) ≡ true
-  pool-waits z =
-      ap (λ (n : ℕ). poolWaitb (poolAt k n)) (sym (object-is 8 z (omega arith)))
-      ∙ implies-out (waitsOnb 8 (threadOf k t)) (poolWaitb (poolAt k (threadOf k t .object))) (Keeps.asked k (threadOf k t) (heldAt k t) (F .waits t small) .3) (Keeps.in-state 8 (threadOf k t) made (state-is ∙ z))
-
-  pub pool-low : p .state ≡ 8 → p .number < 4
-  unfolding poolWaitb
-  pool-low z = pool-small k S (p .number) (and-left (poolAt k (p .number) .created) _ (pool-waits z))
-
-  pub semaphore-low : p .state ≡ 6 → p .number < 16
-  unfolding semaphoreWaitb
-  semaphore-low z = semaphore-small k S (p .number) (and-left (semaphoreAt k (p .number) .created) _ (semaphore-waits z))
-
-  queue-made : p .state ≡ 5 → queueAt k (p .number) .created ≡ true
-  unfolding queueWaitb
-  queue-made z = and-left (queueAt k (p .number) .created) _ (queue-waits z)
-
-  pub queue-low : p .state ≡ 5 → p .number < 8
-  unfolding queueAt noQueue
-  queue-low z =
-      by-test (ltb (p .number) 8)
-      (λ w. ltb-true (p .number) 8 w)
-      (λ w. never (queue-made z)
-      (ap (λ (x : Queue). x .created) (List·getD-eq-default (k .queues) noQueue (let o = ltb-false (p .number) 8 w in let e = F .queuesSized in omega (arith, o, e)))))
-
-  -- a receiver waits at an empty queue
-  pub queue-empty : p .state ≡ 5 → heldAt k t .sending ≡ false → emptyb (queueAt k (p .number)) ≡ true
-  unfolding queueWaitb
-  queue-empty z s =
-      let q = queueAt k (p .number) in
-      sym (ap (λ (b : Bool). if b then (fullb q && blankFrom (q .words) (heldAt k t .message)) else emptyb q) s) ∙ and-right (q .created) _ (queue-waits z)
-
-  module _ (receives : p .state ≡ 5 → heldAt k t .sending ≡ false) where
-    pub empty-at : (n : ℕ) → Queues.queuePlace n ≡ p → emptyb (queueAt k n) ≡ true
-    empty-at n z =
-        let st : p .state ≡ 5 = sym (ap (λ (q : Place). q .state) z) in
-        ap (λ (x : ℕ). emptyb (queueAt k x)) (ap (λ (q : Place). q .number) z) ∙ queue-empty st (receives st)
-
-    pub room-at : (n : ℕ) → Queues.queuePlace n ≡ p → roomb (queueAt k n) ≡ true
-    room-at n z =
-        let st : p .state ≡ 5 = sym (ap (λ (q : Place). q .state) z) in
-        ap (λ (x : ℕ). roomb (queueAt k x)) (ap (λ (q : Place). q .number) z)
-        ∙ Records.empty-room (queueAt k (p .number)) (F .queues (p .number) (queue-low st)) (queue-made st) (queue-empty st (receives st))
-
--- the kinds of objects
-pub object-waits : (p : Place) → objectb p ≡ true → (4 < p .state) × (p .state ≡ 7 → ⊥)
-unfolding objectb
-object-waits p o =
-    by-test (eqb (p .state) 6)
-    (λ e. let z = eqb-true (p .state) 6 e in (omega (arith, z), λ y. omega (arith, z, y)))
-    (λ e. by-test (eqb (p .state) 5)
-    (λ f. let z = eqb-true (p .state) 5 f in (omega (arith, z), λ y. omega (arith, z, y)))
-    (λ f. let z = eqb-true (p .state) 8 (or-rest (eqb (p .state) 6 || eqb (p .state) 5) (eqb (p .state) 8) o (ap (λ (b : Bool). b || eqb (p .state) 5) e ∙ f)) in (omega (arith, z), λ y. omega (arith, z, y))))
-
--- ---- one call
--- its step
-abbrev pub stepped : Kernel → Made → Outcome
-stepped k m = General.step k (m .number) (m .caller) (m .a) (m .b) (m .c) (m .d) (m .messages)
-
-module _ (k : Kernel) (S : Sound k) (m : Made) where
-  -- on sound tables the general call is the step
-  pub answer-is : answer k m ≡ answerOf (stepped k m)
-  unfolding answer General.call
-  answer-is = ap (λ (b : Bool). if b then answerOf (stepped k m) else General.unsound k) (passes k S)
-
-  pub next-sound : Sound (next k m)
-  unfolding next answerOf
-  next-sound = subst (λ (x : Answer). Sound (x .kernel)) (sym answer-is) (claims .stepSound k S (m .number) (m .caller) (m .a) (m .b) (m .c) (m .d) (m .messages))
-
--- the thread's wait lasts
-pub record Lasts (p : Place) (t : ℕ) (k : Kernel) (r : List Entry) : Type 0 where
+-- the thread's wait lasts: it is in the roll, and waits to take
+pub record Lasts (d : Kind) (n t : ℕ) (k : Kernel) (r : List Entry) : Type 0 where
   pub sound : Sound k
-  pub rolls : Members.Rolls p k r
+  pub rolls : Members.Rolls (placeOf d n) k r
   pub stands : 0 < count t (names r)
-  pub receives : p .state ≡ 5 → heldAt k t .sending ≡ false
+  pub takes : heldAt k t .sending ≡ false
 
-module _ (p : Place) (o : objectb p ≡ true) (t : ℕ) (k : Kernel) (m : Made) (e : Entry) (es : List Entry) (L : Lasts p t k (e ∷ es)) where
-  abbrev waits : 4 < p .state
-  waits = object-waits p o .0
+-- a call with 0x00 does not wait
+not-waits : {P : Type 0} {s : Success} → s ≡ done → s ≡ waits → P
+not-waits a b = absurd (let z : _≡_ {A = ℕ} 0 1 = cc in omega arith)
 
-  abbrev S : Sound k
-  S = L .sound
+module _ (d : Kind) (o : rolledb d ≡ true) (n t : ℕ) (k : Kernel) (r : List Entry) (L : Lasts d n t k r) (m : Made) where
+  abbrev F : Fit k
+  F = L .sound .fit
 
-  abbrev here : 0 < count t (lineAt (k .scheduler) p)
-  here = Members.member p k (e ∷ es) (L .rolls) t (L .stands)
+  abbrev p : Place
+  p = placeOf d n
 
-  abbrev Ok : Outcome → Type 0
-  Ok = Steps.Ok p waits k S m e es (L .rolls)
+  abbrev waiters : 4 < stateOn d
+  waiters = Objects.state-low d
 
-  record-ok : (caller : ℕ) (d : Decoded) (messages : List ℕ) → Is (m .number) (m .a) d → (upsetsb p m ≡ true → General.byRecord k caller d messages .status ≡ 0 → ⊥) → Ok (General.byRecord k caller d messages)
-  unfolding General.byRecord General.byCaller
-  record-ok caller (Known call) messages i calm =
-      by-choice Ok (eqb caller 2 && not (ltb (runnerOf k) 32)) (refused k Statuses.nobodyRuns) (General.service k caller call messages)
-      (λ z. Steps.refused-ok p waits k S m e es (L .rolls) Statuses.nobodyRuns refl)
-      (λ z. Services.service-ok p waits k S m e es (L .rolls) (object-waits p o .1) (semaphore-low p k S t here) (queue-low p k S t here) (pool-low p k S t here) (empty-at p k S t here (L .receives)) (room-at p k S t here (L .receives))
-      caller (runner-there k caller z) call messages i
-      (λ u w. calm u (ap (λ (b : Bool). (if b then refused k Statuses.nobodyRuns else General.service k caller call messages) .status) z ∙ w)))
-  record-ok caller Unknown messages i calm = Steps.refused-ok p waits k S m e es (L .rolls) Statuses.unknownCall refl
+  -- a member waits there
+  placed : (u : ℕ) → 0 < count u (names r) → placedb p (threadOf k u) ≡ true
+  placed u c = Serving.placed-in p k F u (Members.member p k r (L .rolls) u c)
 
-  abbrev out : Outcome
-  out = stepped k m
+  small : (u : ℕ) → 0 < count u (names r) → u < 32
+  small u c = States.created-small (k .scheduler) (F .steady) u (Fits.placed-made p (threadOf k u) (placed u c))
 
-  step-ok : (upsetsb p m && doneb (answer k m)) ≡ false → Ok out
-  unfolding General.step doneb answerOf
-  step-ok calm =
-      record-ok (m .caller) (decoded (m .number) (m .caller) (m .a) (m .b) (m .c) (m .d)) (m .messages) (decoded-is (m .number) (m .caller) (m .a) (m .b) (m .c) (m .d))
-      (λ u w. never (and-in (upsetsb p m) (doneb (answer k m)) u (ap doneb (answer-is k S m) ∙ eq-eqb (out .status) 0 w)) calm)
+  taker : Taker d k n t
+  taker = (placed t (L .stands), L .takes)
 
-  pub next-goes : (upsetsb p m && doneb (answer k m)) ≡ false → Members.Goes p k (next k m) (e ∷ es) (rolled p m (answer k m) (e ∷ es))
-  unfolding next rolled doneb answerOf
-  next-goes calm = subst (λ (x : Answer). Members.Goes p k (x .kernel) (e ∷ es) (if eqb (x .status) 0 then struck p m (e ∷ es) else (e ∷ es))) (sym (answer-is k S m)) (step-ok calm)
+  low : n < sizeOf d
+  low =
+      let y = placed t (L .stands) in
+      Objects.object-small d k F n
+      (Objects.waits-created d k F n t (small t (L .stands)) (Held.in-state (stateOn d) (threadOf k t) (Fits.placed-made p (threadOf k t) y) (Fits.placed-state p (threadOf k t) y)) (Serving.placed-object p waiters (threadOf k t) y))
 
-  pub kept : (upsetsb p m && doneb (answer k m)) ≡ false → Kept p m (e ∷ es) (answer k m)
-  unfolding next
-  kept calm = let g = next-goes calm in record { begins = g .rolls .begins; gone = g .gone }
+  not-member : (u : ℕ) → (0 < count u (names r) → ⊥) → without u (names r) ≡ names r
+  not-member u f = Lists.without-none u (names r) (by-eq (count u (names r)) 0 (λ q. q) (λ q. absurd (f (omega (arith, q)))))
 
-  -- and goes on where the thread is not struck out
-  pub next-lasts : (upsetsb p m && doneb (answer k m)) ≡ false → lastsb t (rolled p m (answer k m) (e ∷ es)) ≡ true → Lasts p t (next k m) (rolled p m (answer k m) (e ∷ es))
-  unfolding lastsb
-  next-lasts calm w =
-      let g = next-goes calm in
-      let c = ltb-true 0 (count t (names (rolled p m (answer k m) (e ∷ es)))) w in
-      record { sound = next-sound k S m; rolls = g .rolls; stands = c; receives = λ z. ap (λ (h : Held). h .sending) (g .held t c) ∙ L .receives z }
+  finished-not : (u : ℕ) → finishedb (threadOf k u) ≡ true → 0 < count u (names r) → ⊥
+  finished-not u f c =
+      let i = threadOf k u .state in
+      let s = Fits.placed-state p (threadOf k u) (placed u c) in
+      by-test (eqb i 1) (λ a. omega (arith, s, waiters, eqb-true i 1 a)) (λ a. omega (arith, s, waiters, eqb-true i 2 (or-rest (eqb i 1) (eqb i 2) f a)))
 
--- ---- every list of calls
-kept-all : (p : Place) → objectb p ≡ true → (t : ℕ) (ms : List Made) (k : Kernel) (r : List Entry) → Lasts p t k r → Calm p k ms → KeptAll p t k r ms
-unfolding names count
-kept-all p o t [] k r L c = tt
-kept-all p o t (m ∷ ms) k [] L c = absurd (let z = L .stands in omega (arith, z))
-kept-all p o t (m ∷ ms) k (e ∷ es) L c =
-    (kept p o t k m e es L (c .0), λ w. kept-all p o t ms (next k m) (rolled p m (answer k m) (e ∷ es)) (next-lasts p o t k m e es L (c .0) w) (c .1))
+  -- a thread past the last is no member, nor is the number that stands for it
+  same-target : limitOf (m .number) ≡ 32 → without (m .a) (names r) ≡ without (target m) (names r)
+  same-target l =
+      by-eq (m .a) (target m)
+      (λ q. ap (λ (i : ℕ). without i (names r)) q)
+      (λ q. not-member (m .a) (λ c. let y = small (m .a) c in q (omega (arith, l, y))) ∙ sym (not-member (target m) (λ c. let y = small (target m) c in q (omega (arith, l, y)))))
+
+  -- ---- a call that is carried out
+  module _ (e : Effect) (P : Proper k (m .number) (target m) e) (R : Role k (m .number) (target m) (m .b) (m .c) (m .messages) e) where
+    abbrev es : List Edit
+    es = e .edits
+
+    abbrev x : Kernel
+    x = carriedOut k e .kernel
+
+    -- a giving call serves the first
+    first-served : givesb d n m ≡ true → e ≡ does (moves (firstAt (k .scheduler) p) (ends (served d n) (givenWords d k n (m .b) (m .c) (m .messages))) ∷ [])
+    first-served g = Serving.gives-at d n low m k e R g .first o t taker
+
+    left : (fs : List Edit) → es ≡ fs → allb Lines.unstartedb es ≡ true → allb (Lines.unrankedb p) es ≡ true → Members.Leaves p k x (movers (leavesb p) fs) (counted fs)
+    left fs q s f = subst (λ (l : List Edit). Members.Leaves p k x (movers (leavesb p) l) (counted l)) q (Serving.leaves-done p waiters k F (m .number) (target m) e P s f)
+
+    -- ---- with 0x00
+    module _ (z : e .success ≡ done) (calm : upsetsb d n m ≡ false) where
+      left-by : (fs : List Edit) → es ≡ fs → Members.Leaves p k x (movers (leavesb p) fs) (counted fs)
+      left-by fs q = left fs q (subst (λ (s : Success). Shape s es) z (P .shape)) (Serving.all-unranked d n low m calm es (P .may))
+
+      first-passes : givesb d n m ≡ true → Members.Passes p k x r (rest r)
+      unfolding movers counted leavesb
+      first-passes g =
+          let f = firstAt (k .scheduler) p in
+          Members.passes-first p k x (F .steady) r t (L .stands)
+          (subst (λ (b : Bool). Members.Leaves p k x (if b then f ∷ [] else []) []) (Lines.place-same p p refl) (left-by _ (ap (λ (y : Effect). y .edits) (first-served g)))) (L .rolls)
+
+      named-by : (ts : List ℕ) → Members.Leaves p k x ts [] → limitOf (m .number) ≡ 32 → without (target m) (names r) ≡ Lines.less ts (names r) → Members.Passes p k x r (each (unnamed (m .a)) r)
+      named-by ts A l s = Members.passes-named p k x ts (m .a) r A (L .rolls) (same-target l ∙ s)
+
+      named-passes : (eqb (m .number) 5 || eqb (m .number) 10) ≡ true → Members.Passes p k x r (each (unnamed (m .a)) r)
+      unfolding movers counted leavesb limitOf terminateEffect abortEffect
+      named-passes g =
+          let a = target m in
+          let one = sym (Lines.less-one a (names r)) in
+          by-test (eqb (m .number) 5)
+          (λ y. let i = eqb-true (m .number) 5 y in
+          let q = ap (λ (f : Effect). f .edits) (R .terminates i) in
+          by-test (finishedb (threadOf k a))
+          (λ f. named-by [] (left-by [] (q ∙ rw f)) (ap limitOf i) (not-member a (finished-not a f) ∙ sym (Lines.less-none (names r))))
+          (λ f. named-by (a ∷ []) (left-by (moves a stops ∷ []) (q ∙ rw f)) (ap limitOf i) one))
+          (λ y. let i = eqb-true (m .number) 10 (or-rest (eqb (m .number) 5) (eqb (m .number) 10) g y) in
+          named-by (a ∷ []) (left-by _ (ap (λ (f : Effect). f .edits) (R .aborts i))) (ap limitOf i) one)
+
+      ticked-passes : m .number ≡ 15 → Members.Passes p k x r (each ticked r)
+      ticked-passes i =
+          Members.passes-ticked p k x (left-by _ (ap (λ (f : Effect). f .edits) (R .ticks i))) r (λ v c. (small v c, Fits.placed-paused p waiters (threadOf k v) (placed v c))) (L .rolls)
+
+      other-passes : givesb d n m ≡ false → (eqb (m .number) 5 || eqb (m .number) 10) ≡ false → eqb (m .number) 15 ≡ false → Members.Passes p k x r r
+      unfolding movers counted
+      other-passes g i j =
+          let taken : takesb d n m ≡ false = by-test (takesb d n m) (λ y. not-waits z (Serving.takes-at d n low m k e R y .waits o t taker)) (λ y. y) in
+          by-test (onb n m (rowOf d .empties))
+          (λ y. Members.passes-same p k x r (left-by [] (Serving.empties-at d n low m k e R y t taker)) (L .rolls))
+          (λ y. Members.passes-same p k x r (let (a, b) = Serving.nobody-leaves d n low m calm g taken y i j es (P .may) in rw (a, b) at (left-by es refl)) (L .rolls))
+
+      done-passes : Members.Passes p k x r (struck d n m r)
+      unfolding struck
+      done-passes =
+          by-choice (Members.Passes p k x r) (givesb d n m) _ _ first-passes
+          (λ g. by-choice (Members.Passes p k x r) (eqb (m .number) 5 || eqb (m .number) 10) _ _ named-passes
+          (λ i. by-choice (Members.Passes p k x r) (eqb (m .number) 15) _ _ (λ j. ticked-passes (eqb-true (m .number) 15 j)) (other-passes g i)))
+
+    -- ---- with 0x19: one record changes
+    lifted-passes : e .success ≡ lifted → Members.Passes p k x r r
+    unfolding allb Lines.unstartedb Lines.unrankedb movers counted
+    lifted-passes z = let q = subst (λ (s : Success). Shape s es) z (P .shape) .2 in Members.passes-same p k x r (left _ q (ap (allb Lines.unstartedb) q) (ap (allb (Lines.unrankedb p)) q)) (L .rolls)
+
+    -- ---- with 0x101: the caller begins to wait
+    -- who would join this line at the front would send to a queue on which somebody waits to receive
+    front-gives : (v : ℕ) (state object ticks : ℕ) (h : Held) → mayMoveb (m .number) (target m) v (starts true state object ticks h) ≡ true → placedb p (inState state object ticks (threadOf k v)) ≡ true → givesb d n m ≡ true
+    unfolding mayMoveb implies inState givesb oneOf
+    front-gives v state object ticks h y a =
+        let send = and-left (eqb (m .number) 25 && eqb state onQueue) (eqb object (target m)) y in
+        let number = eqb-true (m .number) 25 (and-left (eqb (m .number) 25) (eqb state onQueue) send) in
+        let same = eqb-true state onQueue (and-right (eqb (m .number) 25) (eqb state onQueue) send) in
+        let there = eqb-true object (target m) (and-right (eqb (m .number) 25 && eqb state onQueue) (eqb object (target m)) y) in
+        Serving.target-on d n low m (rowOf d .gives) (Serving.own-row d .1) (sym there ∙ Serving.placed-object p waiters _ a)
+        (ap (λ (c : Kind). oneOf (m .number) (rowOf c .gives)) (Objects.same-kind d Kind.queue (sym (Fits.placed-state p _ a) ∙ same)) ∙ ap (λ (i : ℕ). oneOf i (rowOf Kind.queue .gives)) number)
+
+    starts-passes : (v : ℕ) (w : Move) → startsb w ≡ true → es ≡ moves v w ∷ [] → e .success ≡ waits → Members.Passes p k x r r
+    unfolding startsb mayb
+    starts-passes v (ends c words) s q z = never s refl
+    starts-passes v (starts front state object ticks h) s q z =
+        let may = Lines.all-first (mayb (m .number) (target m)) _ [] (ap (allb (mayb (m .number) (target m))) (sym q) ∙ P .may) in
+        Members.passes-same p k x r
+        (Serving.leaves-none p waiters k F (m .number) (target m) e P v front state object ticks h q
+        (λ f. by-test (placedb p (inState state object ticks (threadOf k v)))
+        (λ a. not-waits (ap (λ (y : Effect). y .success) (first-served (front-gives v state object ticks h (rw f at may) a))) z)
+        (λ a. a))) (L .rolls)
+    starts-passes v stops s q z = never s refl
+    starts-passes v (turns f g) s q z = never s refl
+
+    carried-passes : (s : Success) → e .success ≡ s → (eqb (statusOf s) 0 ≡ true → upsetsb d n m ≡ false) → Members.Passes p k x r (if eqb (statusOf s) 0 then struck d n m r else r)
+    unfolding statusOf
+    carried-passes done z calm = done-passes z (calm refl)
+    carried-passes lifted z calm = lifted-passes z
+    carried-passes waits z calm = let (v, w, s, q) = subst (λ (y : Success). Shape y es) z (P .shape) in starts-passes v w s q z
+
+    -- the thread that is served holds 0x00 and what the call gives
+    served-holds : (words : List ℕ) → e ≡ does (moves (firstAt (k .scheduler) p) (ends (served d n) words) ∷ []) → firstAt (k .scheduler) p ≡ t → heldAt x t ≡ holding Statuses.success words
+    unfolding carriedOut applied edited withHeld withScheduler heldAt heldBy statusBy
+    served-holds words q i =
+        ap (λ (y : Effect). heldAt (carriedOut k y .kernel) t) q
+        ∙ ap (λ (v : ℕ). getD (set (k .held) v (holding Statuses.success words)) t noHeld) i
+        ∙ getD-set-same (k .held) t (holding Statuses.success words) noHeld (let l = small t (L .stands) in let h = F .heldSized in omega (arith, l, h))
+
+  -- ---- any call
+  abbrev StepTo : Outcome → Type 0
+  StepTo y = Step k (m .number) (target m) (m .b) (m .c) (m .messages) y
+
+  -- the roll after an outcome
+  abbrev Follows : Outcome → Type 0
+  Follows y = Members.Passes p k (y .kernel) r (if eqb (y .status) 0 then struck d n m r else r)
+
+  step-passes : (y : Outcome) → StepTo y → (eqb (y .status) 0 ≡ true → upsetsb d n m ≡ false) → Follows y
+  unfolding refused carriedOut
+  step-passes y (refuses s z q) calm = subst Follows (sym q) (rw z (record { rolls = L .rolls; gone = λ u c i. absurd (omega (arith, c, i)); held = λ u c. refl }))
+  step-passes y (carries e q P R) calm = subst Follows (sym q) (carried-passes e P R (e .success) refl (λ z. calm (ap (λ (w : Outcome). eqb (w .status) 0) q ∙ z)))
+
+  -- no taking call is served
+  taking-undone : takesb d n m ≡ true → (y : Outcome) → StepTo y → eqb (y .status) 0 ≡ false
+  unfolding refused carriedOut statusOf
+  taking-undone g y (refuses s z q) = ap (λ (w : Outcome). eqb (w .status) 0) q ∙ z
+  taking-undone g y (carries e q P R) = ap (λ (w : Outcome). eqb (w .status) 0) q ∙ ap (λ (s : Success). eqb (statusOf s) 0) (Serving.takes-at d n low m k e R g .waits o t taker)
+
+  giving-holds : givesb d n m ≡ true → firstAt (k .scheduler) p ≡ t → (y : Outcome) → StepTo y → eqb (y .status) 0 ≡ true → heldAt (y .kernel) t ≡ holding Statuses.success (givenWords d k n (m .b) (m .c) (m .messages))
+  unfolding refused
+  giving-holds g i y (refuses s z q) w = never (sym (ap (λ (v : Outcome). eqb (v .status) 0) q) ∙ w) z
+  giving-holds g i y (carries e q P R) w = ap (λ (v : Outcome). heldAt (v .kernel) t) q ∙ served-holds e P R _ (first-served e P R g) i
+
+  module _ (st : StepTo (stepped k m)) where
+    abbrev is : answer k m ≡ answerOf (stepped k m)
+    is = answer-is k (L .sound) m
+
+    pub none-taken : (takesb d n m && doneb (answer k m)) ≡ false
+    unfolding doneb answerOf
+    none-taken = by-test (takesb d n m) (λ g. rw g (ap (λ (y : Answer). eqb (y .status) 0) is ∙ taking-undone g (stepped k m) st)) (λ g. rw g)
+
+    -- who is alone in the roll is served by a giving call
+    pub serves : names r ≡ t ∷ [] → givesb d n m ≡ true → doneb (answer k m) ≡ true → Served d n t k m
+    unfolding doneb next answerOf holding firstAt
+    serves alone g z =
+        let first = Lists.begins-first t [] (lineAt (k .scheduler) p) (subst (λ (l : List ℕ). Begins l (lineAt (k .scheduler) p)) alone (L .rolls .begins)) in
+        let h = ap (λ (y : Answer). heldAt (y .kernel) t) is ∙ giving-holds g first (stepped k m) st (sym (ap (λ (y : Answer). eqb (y .status) 0) is) ∙ z) in
+        record { status = ap (λ (y : Held). y .status) h; words = ap (λ (y : Held). y .words) h }
+
+    module _ (calm : (upsetsb d n m && doneb (answer k m)) ≡ false) where
+      next-passes : Members.Passes p k (next k m) r (rolled d n m (answer k m) r)
+      unfolding next rolled doneb answerOf
+      next-passes =
+          subst (λ (y : Answer). Members.Passes p k (y .kernel) r (if eqb (y .status) 0 then struck d n m r else r)) (sym is)
+          (step-passes (stepped k m) st
+          (λ y. by-test (upsetsb d n m) (λ u. never (and-in (upsetsb d n m) (doneb (answer k m)) u (ap doneb is ∙ y)) calm) (λ u. u)))
+
+      pub kept : Kept d n m r (answer k m)
+      unfolding next
+      kept = record { begins = next-passes .rolls .begins; gone = next-passes .gone }
+
+      -- the wait goes on where the thread is not struck out
+      pub next-lasts : lastsb t (rolled d n m (answer k m) r) ≡ true → Lasts d n t (next k m) (rolled d n m (answer k m) r)
+      unfolding lastsb
+      next-lasts w =
+          let c = ltb-true 0 (count t (names (rolled d n m (answer k m) r))) w in
+          record { sound = next-sound k (L .sound) m; rolls = next-passes .rolls; stands = c; takes = ap (λ (h : Held). h .sending) (next-passes .held t c) ∙ L .takes }
 
 -- ---- the start
-pub names-roll : (k : Kernel) (xs : List ℕ) → names (rollOf k xs) ≡ xs
-unfolding names rollOf
-names-roll k [] = refl
-names-roll k (x ∷ xs) = ap {B = List ℕ} (λ l. x ∷ l) (names-roll k xs)
+-- only who waits on a queue sends
+sends-queue : (th : Thread) (h : Held) → heldFitb th h ≡ true → h .sending ≡ true → th .state ≡ onQueue
+unfolding heldFitb senderFitb waitsOnb
+sends-queue th h f s =
+    let fits = and-right (statusFitb th h && wordsFitb th h) (senderFitb th h) (and-left _ (requestFitb th h) (and-left _ (unheldFitb th h) f)) in
+    let w = implies-out (h .sending) (waitsOnb onQueue th) (and-left _ (implies (h .front) (sendsb th h)) (and-left _ (sendsb th h || blankFrom 0 (h .message)) fits)) s in
+    eqb-true (th .state) onQueue (and-right (th .created) (eqb (th .state) onQueue) w)
 
-agrees-roll : (k : Kernel) (xs : List ℕ) → Members.Agrees k (rollOf k xs)
-unfolding rollOf
-agrees-roll k [] = tt
-agrees-roll k (x ∷ xs) = (refl, agrees-roll k xs)
-
-pub start : (p : Place) (k : Kernel) → Sound k → (ahead : List ℕ) (t : ℕ) → Waits k p ahead t → Lasts p t k (startRoll k ahead t)
-start p k S ahead t W =
+pub start : (d : Kind) (n : ℕ) (k : Kernel) → Sound k → (ahead : List ℕ) (t : ℕ) → Waits k d n ahead t → Lasts d n t k (startRoll k ahead t)
+start d n k S ahead t W =
     let xs = ahead ++ (t ∷ []) in
+    let p = placeOf d n in
+    let F = S .fit in
+    let c = Members.stands-last ahead t in
+    let y = Serving.placed-in p k F t (let b = Lists.begins-count xs (lineAt (k .scheduler) p) (W .line) t in omega (arith, b, c)) in
+    let small = States.created-small (k .scheduler) (F .steady) t (Fits.placed-made p (threadOf k t) y) in
     record {
       sound = S;
-      rolls = record { begins = rw (names-roll k xs) (W .line); agrees = agrees-roll k xs };
-      stands = (let n = ap (count t) (names-roll k xs) in let c = Lists.count-append t ahead (t ∷ []) in let h = Lists.count-here t [] in omega (arith, n, c, h));
-      receives = W .receives;
+      rolls = record { begins = rw (Members.names-roll k xs) (W .line); agrees = ap (rollOf k) (sym (Members.names-roll k xs)) };
+      stands = rw (Members.names-roll k xs) c;
+      takes = by-test (heldAt k t .sending)
+          (λ s. W .receives (Objects.same-kind d Kind.queue (sym (Fits.placed-state p (threadOf k t) y) ∙ sends-queue (threadOf k t) (heldAt k t) (F .held t small) s)))
+          (λ s. s);
     }
-
-pub rolls-kept : (p : Place) (k : Kernel) → Sound k → (ahead : List ℕ) (t : ℕ) → Waits k p ahead t → (ms : List Made) → Calm p k ms → KeptAll p t k (startRoll k ahead t) ms
-rolls-kept p k S ahead t W ms c = kept-all p (W .object) t ms k (startRoll k ahead t) (start p k S ahead t W) c

@@ -1,283 +1,242 @@
--- While somebody waits no taking call there is served, and a giving call serves the first.
+-- Who leaves the line of an object by one call, and which calls are those of the object.
 use mathlib.Core.Path.{_≡_, refl, sym, ap, _∙_, subst}
-use mathlib.Core.List.{List, _∷_}
-use mathlib.Core.Bool.{Bool, true, false, _&&_, _||_, not}
-use Prim.Native.Nat.{ℕ, _<_, min}
+use mathlib.Core.List.{List, [], _∷_, _++_, append-nil}
+use mathlib.Core.Bool.{Bool, true, false, _&&_, _||_, not, and-false}
+use Prim.Native.Nat.{ℕ, _<_}
 use native.Mathlib.Omega.{arith}
-use lib.ListN.{getD, set}
-use lib.Seq.{getD-set-same}
-use lib.Dec.{eqb, ltb}
-use borrow.Author.Tests.{eqb-true, lt-ltb, ltb-true}
-use Rattle.lines.specs.Logic.{if_then_else_}
-use Rattle.lines.specs.Lists.{count}
-use Rattle.lines.proofs.Laws.Logic.{by-test, by-choice, never, and-left, and-right, or-rest}
+use lib.Dec.{eqb}
+use borrow.Author.Tests.{eqb-true, eq-eqb, ne-eqb}
+use Rattle.lines.specs.Logic.{if_then_else_, oneIf}
+use Rattle.lines.specs.Lists.{count, without, onlyIf}
+use Rattle.lines.proofs.Laws.Logic.{by-test, by-eq, never, and-left, and-right, and-in, or-rest}
+use Rattle.lines.proofs.Laws.Lists
+use Rattle.scheduler.specs.declared.thread.Thread.{Thread}
 use Rattle.scheduler.specs.declared.thread.Place.{Place}
-use Rattle.scheduler.specs.Orders.{lineAt, firstAt}
-use Rattle.objects.specs.Queues.{emptyb, roomb}
-use Rattle.calls.specs.Held.{noWords, oneWord, noHeld, holding}
-use Rattle.calls.specs.Messages.{messageIn}
-use Rattle.calls.specs.Statuses as Statuses
-use Rattle.calls.specs.Calls.{decoded, knownCall, semaphoreNumber, queueNumber, poolNumber, blockNumber}
-use Rattle.calls.specs.declared.call.Call.{Call}
-use Rattle.calls.specs.declared.call.Call.the-variants.{SemaphoreGet, SemaphorePut, SemaphoreCeilingPut, QueueSend, QueueFrontSend, QueueReceive, BlockAllocate, BlockRelease}
-use Rattle.calls.specs.declared.call.Decoded.{Decoded}
-use Rattle.calls.specs.declared.call.Decoded.the-variants.{Known, Unknown}
-use Rattle.waiting.specs.Fit.{semaphoreWaitb, poolWaitb}
+use Rattle.scheduler.specs.Threads.{readyb, waitsb, standsb, numberOf, placedb, inState}
+use Rattle.scheduler.specs.Sound.{Steady}
+use Rattle.scheduler.specs.Orders.{lineAt}
+use Rattle.scheduler.proofs.Laws.Orders
+use Rattle.calls.specs.declared.held.Held.{Held}
 use Rattle.kernel.specs.declared.Kernel.{Kernel}
-use Rattle.kernel.specs.declared.Answer.{Answer}
-use Rattle.kernel.specs.Tables.{runnerOf, heldAt, semaphoreAt, queueAt, poolAt, withHeld, withScheduler}
-use Rattle.kernel.specs.Answers.{Outcome, answerOf, refused, carried, guarded}
-use Rattle.kernel.specs.Waits.{endWait}
-use Rattle.kernel.specs.General as General
-use Rattle.kernel.specs.Semaphores as Semaphores
-use Rattle.kernel.specs.Queues as Queues
-use Rattle.kernel.specs.Pools as Pools
-use Rattle.kernel.specs.Sound.{Sound}
-use Rattle.kernel.proofs.Laws.KeepsPools
-use Rattle.claims.specs.Lists.{Made, answer, next}
-use Rattle.claims.specs.Rolls.{Entry, onb, givesb, takesb, doneb, objectb, givenWords}
+use Rattle.kernel.specs.Tables.{threadOf}
+use Rattle.kernel.specs.Kinds.{Kind, sizeOf, placeOf}
+use Rattle.kernel.specs.Kinds.Kind.{semaphore, queue, group, pool}
+use Rattle.kernel.specs.Sound.{Fit}
+use Rattle.kernel.specs.Edits.{Move, Edit, Effect, recordBy, frontb, anyb, leavesb, sameb, movers, counted, edited, applied, lineBy, linesBy, carriedOut}
+use Rattle.kernel.specs.Edits.Cause.{served, deleted, timedOut, aborted}
+use Rattle.kernel.specs.Edits.Move.{ends, starts, stops, turns}
+use Rattle.kernel.specs.Edits.Edit.{moves, alters, counts, ranks, stores, sets}
+use Rattle.kernel.specs.Roles.{rowOf, oneOf, kindOf, limitOf, mayMoveb, mayb, allb}
+use Rattle.kernel.specs.Effects.{Role, Takes, Gives, Taker}
+use Rattle.kernel.proofs.Laws.Objects
+use Rattle.kernel.proofs.Laws.Fits
+use Rattle.kernel.proofs.Laws.Lines
+use Rattle.kernel.proofs.Laws.Fates
+use Rattle.kernel.proofs.Laws.Does
+use Rattle.claims.specs.Lists.{Made}
+use Rattle.claims.specs.Rolls.{onb, givesb, takesb, upsetsb}
+use Rattle.claims.proofs.Laws.Steps.{target}
 use Rattle.claims.proofs.Laws.Members
-use Rattle.claims.proofs.Laws.Steps
-use Rattle.claims.proofs.Laws.Rolls
 
--- ---- a property of outcomes that every refusal has
-module _ (k : Kernel) (P : Outcome → Type 0) (ref : (s : ℕ) → eqb s 0 ≡ false → P (refused k s)) where
-  pub guarded-by : (reason : ℕ) (o : Outcome) → (reason ≡ 0 → P o) → P (guarded k reason o)
-  unfolding guarded
-  guarded-by reason o f = by-choice P (eqb reason 0) o (refused k reason) (λ z. f (eqb-true reason 0 z)) (λ z. ref reason z)
+-- who stands in the line
+pub placed-in : (p : Place) (k : Kernel) → Fit k → (u : ℕ) → 0 < count u (lineAt (k .scheduler) p) → placedb p (threadOf k u) ≡ true
+unfolding oneIf
+placed-in p k F u c = by-test (placedb p (threadOf k u)) (λ y. y) (λ y. absurd (let z = Orders.line-count (k .scheduler) (F .steady) u p ∙ ap oneIf y in omega (arith, c, z)))
 
-  pub known-by : (caller : ℕ) (call : Call) (messages : List ℕ) → P (General.service k caller call messages) → P (General.byRecord k caller (if ltb 2 caller then Unknown else Known call) messages)
-  unfolding General.byRecord General.byCaller
-  known-by caller call messages f =
-      by-choice (λ (d : Decoded). P (General.byRecord k caller d messages)) (ltb 2 caller) Unknown (Known call)
-      (λ z. ref Statuses.unknownCall refl)
-      (λ z. by-choice P (eqb caller 2 && not (ltb (runnerOf k) 32)) (refused k Statuses.nobodyRuns) (General.service k caller call messages) (λ w. ref Statuses.nobodyRuns refl) (λ w. f))
+-- ---- edits
+-- where no edit for which f holds moves so or counts, nobody does
+none-move : (c : Move → Bool) (f : Edit → Bool) → ((t : ℕ) (m : Move) → f (moves t m) ≡ true → c m ≡ false) → ((t : ℕ) → f (counts t) ≡ true → ⊥)
+    → (es : List Edit) → allb f es ≡ true → (movers c es ≡ []) × (counted es ≡ [])
+unfolding movers counted
+none-move c f h g [] a = (refl, refl)
+none-move c f h g (e ∷ es) a = both e (Lines.all-first f e es a) (none-move c f h g es (Lines.all-rest f e es a))
+  where
+    both : (e : Edit) → f e ≡ true → (movers c es ≡ []) × (counted es ≡ []) → (movers c (e ∷ es) ≡ []) × (counted (e ∷ es) ≡ [])
+    both (moves t m) y r = (rw (h t m y) (r .0), r .1)
+    both (alters t s) y r = r
+    both (counts t) y r = absurd (g t y)
+    both (ranks d n) y r = r
+    both (stores d n x) y r = r
+    both (sets n) y r = r
 
--- ---- taking
--- not done
-abbrev Undone : Outcome → Type 0
-Undone o = eqb (o .status) 0 ≡ false
+all-from : (f g : Edit → Bool) → ((e : Edit) → f e ≡ true → g e ≡ true) → (es : List Edit) → allb f es ≡ true → allb g es ≡ true
+unfolding allb
+all-from f g h [] a = refl
+all-from f g h (e ∷ es) a = and-in (g e) (allb g es) (h e (and-left (f e) (allb f es) a)) (all-from f g h es (and-right (f e) (allb f es) a))
 
-refused-undone : (k : Kernel) (s : ℕ) → eqb s 0 ≡ false → Undone (refused k s)
-unfolding refused
-refused-undone k s z = z
+-- ---- the line of waiters after a call that is carried out
+module _ (p : Place) (waiters : 4 < p .state) where
+  pub placed-object : (th : Thread) → placedb p th ≡ true → th .object ≡ p .number
+  unfolding placedb numberOf
+  placed-object th e =
+      let state = Fits.placed-state p th e in
+      sym (ap (λ (b : Bool). if b then th .priority else th .object) (ne-eqb (th .state) 0 (λ z. omega (arith, z, state, waiters))))
+      ∙ eqb-true (numberOf th) (p .number) (and-right (standsb th && eqb (th .state) (p .state)) (eqb (numberOf th) (p .number)) e)
 
-module _ (k : Kernel) (caller a b c d : ℕ) (messages : List ℕ) where
-  get-undone : semaphoreAt k (min a 16) .count ≡ 0 → Undone (General.step k 18 caller a b c d messages)
-  unfolding General.step General.service decoded knownCall Semaphores.semaphoreGet carried
-  get-undone z =
-      known-by k Undone (refused-undone k) caller (SemaphoreGet (semaphoreNumber a) b) messages
-      (guarded-by k Undone (refused-undone k) _ _
-      (λ r. by-choice Undone (ltb 0 (semaphoreAt k (min a 16) .count)) _ _ (λ w. absurd (let l = ltb-true 0 (semaphoreAt k (min a 16) .count) w in omega (arith, l, z))) (λ w. refl)))
+  -- where a thread waits is told by its state and object alone
+  placed-seen : (th : Thread) → placedb p (Fits.seen th) ≡ placedb p th
+  unfolding placedb standsb readyb waitsb numberOf Fits.seen
+  placed-seen th = by-eq (th .state) 0 (λ z. rw (ne-eqb (th .state) (p .state) (λ q. omega (arith, z, q, waiters)), and-false)) (λ z. rw (ne-eqb (th .state) 0 z))
 
-  receive-undone : emptyb (queueAt k (min a 8)) ≡ true → Undone (General.step k 26 caller a b c d messages)
-  unfolding General.step General.service decoded knownCall Queues.queueReceive Queues.receiveFrom carried
-  receive-undone z =
-      known-by k Undone (refused-undone k) caller (QueueReceive (queueNumber a) b) messages
-      (guarded-by k Undone (refused-undone k) _ _
-      (λ r. by-choice Undone (emptyb (queueAt k (min a 8))) _ _ (λ w. refl) (λ w. never z w)))
+  -- who stands there and does not leave is not moved
+  unmoved : (k : Kernel) (e : Edit) → Fits.Firm k e → (u : ℕ) → placedb p (threadOf k u) ≡ true → count u (movers (leavesb p) (e ∷ [])) ≡ 0 → count u (movers anyb (e ∷ [])) ≡ 0
+  unfolding movers
+  unmoved k (moves t m) G u y z =
+      by-test (leavesb p m) (λ l. rw l at z)
+      (λ l. by-eq t u
+      (λ q. never (ap (λ (v : ℕ). placedb p (threadOf k v)) q ∙ y) (Lines.away p waiters m (threadOf k t) (G .was) l))
+      (λ q. Lists.count-there u t [] q ∙ Lines.count-none u))
+  unmoved k (alters t f) G u y z = z
+  unmoved k (counts t) G u y z = z
+  unmoved k (ranks d n) G u y z = z
+  unmoved k (stores d n x) G u y z = z
+  unmoved k (sets c) G u y z = z
 
-  allocate-undone : poolAt k (min a 4) .free ≡ 0 → Undone (General.step k 35 caller a b c d messages)
-  unfolding General.step General.service decoded knownCall Pools.blockAllocate carried
-  allocate-undone z =
-      known-by k Undone (refused-undone k) caller (BlockAllocate (poolNumber a) b) messages
-      (guarded-by k Undone (refused-undone k) _ _
-      (λ r. by-choice Undone (ltb 0 (poolAt k (min a 4) .free)) _ _ (λ w. absurd (let l = ltb-true 0 (poolAt k (min a 4) .free) w in omega (arith, l, z))) (λ w. refl)))
+  -- and keeps what it holds, in tables y that differ by the choice
+  kept-all : (k y : Kernel) → Steady (k .scheduler) → (es : List Edit) → Fits.Firms k es → (u : ℕ) → Fates.Kept (applied k es) y u 0 → placedb p (threadOf k u) ≡ true → count u (movers (leavesb p) es) ≡ 0 → Fates.Kept k y u (count u (counted es))
+  unfolding applied counted
+  kept-all k y S [] G u C h z = rw (Lines.count-none u) C
+  kept-all k y S (e ∷ es) G u C h z =
+      let c = Fates.movers-count (leavesb p) e es u in
+      let a = Fates.kept-all k S (e ∷ []) (G .0, tt) u (unmoved k e (G .0) u h (omega (arith, c, z))) in
+      rw (ap (count u) (Members.counted-append (e ∷ []) es) ∙ Lists.count-append u (counted (e ∷ [])) (counted es))
+      (Fates.kept-then k (edited k e) y u _ _ a
+      (kept-all (edited k e) y (Fits.steady-edit k S e (G .0)) es (G .1) u C (sym (placed-seen _) ∙ ap (placedb p) (a .seen) ∙ placed-seen _ ∙ h) (omega (arith, c, z))))
 
--- which taking call it is
-pub takes-by : {P : Type 0} (p : Place) (m : Made) → takesb p m ≡ true → (p .state ≡ 6 → m .number ≡ 18 → P) → (p .state ≡ 5 → m .number ≡ 26 → P) → (p .state ≡ 8 → m .number ≡ 35 → P) → P
-unfolding takesb onb
-takes-by p m g f6 f5 f8 =
-    let x = eqb (p .state) 6 && eqb (m .number) 18 in
-    let y = eqb (p .state) 5 && eqb (m .number) 26 in
-    let z = eqb (p .state) 8 && eqb (m .number) 35 in
-    let c = and-right (eqb (m .a) (p .number)) (x || y || z) g in
-    by-test x
-    (λ w. f6 (eqb-true (p .state) 6 (and-left (eqb (p .state) 6) (eqb (m .number) 18) w)) (eqb-true (m .number) 18 (and-right (eqb (p .state) 6) (eqb (m .number) 18) w)))
-    (λ w. by-test y
-    (λ v. f5 (eqb-true (p .state) 5 (and-left (eqb (p .state) 5) (eqb (m .number) 26) v)) (eqb-true (m .number) 26 (and-right (eqb (p .state) 5) (eqb (m .number) 26) v)))
-    (λ v. let u = or-rest (x || y) z c (ap (λ (q : Bool). q || y) w ∙ v) in
-    f8 (eqb-true (p .state) 8 (and-left (eqb (p .state) 8) (eqb (m .number) 35) u)) (eqb-true (m .number) 35 (and-right (eqb (p .state) 8) (eqb (m .number) 35) u))))
+  module _ (k : Kernel) (F : Fit k) (n a : ℕ) (e : Effect) (P : Does.Proper k n a e) where
+    abbrev es : List Edit
+    es = e .edits
 
-pub takes-on : (p : Place) (m : Made) → takesb p m ≡ true → m .a ≡ p .number
-unfolding takesb onb
-takes-on p m g = eqb-true (m .a) (p .number) (and-left (eqb (m .a) (p .number)) _ g)
+    abbrev x : Kernel
+    x = carriedOut k e .kernel
 
--- which giving call it is
-pub gives-by : {P : Type 0} (p : Place) (m : Made) → givesb p m ≡ true → (p .state ≡ 6 → m .number ≡ 19 → P) → (p .state ≡ 6 → m .number ≡ 20 → P)
-    → (p .state ≡ 5 → m .number ≡ 24 → P) → (p .state ≡ 5 → m .number ≡ 25 → P) → (p .state ≡ 8 → m .number ≡ 36 → P) → P
-unfolding givesb onb
-gives-by p m g f19 f20 f24 f25 f36 =
-    let n = m .number in
-    let x = eqb (p .state) 6 && (eqb n 19 || eqb n 20) in
-    let y = eqb (p .state) 5 && (eqb n 24 || eqb n 25) in
-    let z = eqb (p .state) 8 && eqb n 36 in
-    let c = and-right (eqb (m .a) (p .number)) (x || y || z) g in
-    by-test x
-    (λ w. let s = eqb-true (p .state) 6 (and-left (eqb (p .state) 6) (eqb n 19 || eqb n 20) w) in
-    let q = and-right (eqb (p .state) 6) (eqb n 19 || eqb n 20) w in
-    by-test (eqb n 19) (λ a. f19 s (eqb-true n 19 a)) (λ a. f20 s (eqb-true n 20 (or-rest (eqb n 19) (eqb n 20) q a))))
-    (λ w. by-test y
-    (λ v. let s = eqb-true (p .state) 5 (and-left (eqb (p .state) 5) (eqb n 24 || eqb n 25) v) in
-    let q = and-right (eqb (p .state) 5) (eqb n 24 || eqb n 25) v in
-    by-test (eqb n 24) (λ a. f24 s (eqb-true n 24 a)) (λ a. f25 s (eqb-true n 25 (or-rest (eqb n 24) (eqb n 25) q a))))
-    (λ v. let u = or-rest (x || y) z c (ap (λ (q : Bool). q || y) w ∙ v) in
-    f36 (eqb-true (p .state) 8 (and-left (eqb (p .state) 8) (eqb n 36) u)) (eqb-true n 36 (and-right (eqb (p .state) 8) (eqb n 36) u))))
+    kept : (u : ℕ) → 0 < count u (lineAt (k .scheduler) p) → count u (movers (leavesb p) es) ≡ 0 → Fates.Kept k x u (count u (counted es))
+    kept u c z = kept-all k x (F .steady) es (P .firm) u (Does.chosen-kept k n a e P u) (placed-in p k F u c) z
 
-module _ (p : Place) (o : objectb p ≡ true) (t : ℕ) (k : Kernel) (m : Made) (e : Entry) (es : List Entry) (L : Rolls.Lasts p t k (e ∷ es)) where
-  abbrev S : Sound k
-  S = L .sound
+    -- nobody begins to wait, and the line is not ranked
+    pub leaves-done : allb Lines.unstartedb es ≡ true → allb (Lines.unrankedb p) es ≡ true → Members.Leaves p k x (movers (leavesb p) es) (counted es)
+    leaves-done s r =
+        let line = Does.chosen-line k n a e P p ∙ Lines.waiters-after p waiters k (F .steady) es (P .firm) s r in
+        record {
+          line = ([], line ∙ sym (append-nil _));
+          gone = λ u c. ap (count u) line ∙ Lines.less-gone (movers (leavesb p) es) (lineAt (k .scheduler) p) u c;
+          kept = kept;
+        }
 
-  abbrev here : 0 < count t (lineAt (k .scheduler) p)
-  here = Members.member p k (e ∷ es) (L .rolls) t (L .stands)
+    -- one thread begins to wait, and does not join that line at the front
+    pub leaves-none : (t : ℕ) (front : Bool) (state object ticks : ℕ) (h : Held) → es ≡ moves t (starts front state object ticks h) ∷ [] → (front ≡ true → placedb p (inState state object ticks (threadOf k t)) ≡ false) → Members.Leaves p k x [] []
+    unfolding linesBy lineBy frontb recordBy movers leavesb counted oneIf
+    leaves-none t front state object ticks h q back =
+        let l = lineAt (k .scheduler) p in
+        let b = placedb p (inState state object ticks (threadOf k t)) in
+        let away = Lines.away p waiters (starts front state object ticks h) (threadOf k t) (subst (Fits.Firms k) q (P .firm) .0 .was) refl in
+        let same : without t l ≡ Lines.less [] l = Lists.without-none t l (Orders.line-count (k .scheduler) (F .steady) t p ∙ ap oneIf away) ∙ sym (Lines.less-none l) in
+        let line = Does.chosen-line k n a e P p ∙ Lines.line-after k (F .steady) es (P .firm) p ∙ ap (λ (fs : List Edit). linesBy k fs p l) q in
+        record {
+          line = by-test front
+              (λ f. ([], line ∙ rw (f, back f) (same ∙ sym (append-nil (Lines.less [] l)))))
+              (λ f. (onlyIf b t, line ∙ rw f (ap (λ (ys : List ℕ). ys ++ onlyIf b t) same)));
+          gone = λ u c. absurd (let z = Lines.count-none u in omega (arith, c, z));
+          kept = λ u c z. subst (λ (fs : List Edit). Fates.Kept k x u (count u (counted fs))) q (kept u c (ap (λ (fs : List Edit). count u (movers (leavesb p) fs)) q ∙ Lines.count-none u));
+        }
 
-  abbrev at : ℕ → Outcome
-  at n = General.step k n (m .caller) (m .a) (m .b) (m .c) (m .d) (m .messages)
+-- ---- the calls of an object
+or-false : (a b : Bool) → (a || b) ≡ false → (a ≡ false) × (b ≡ false)
+or-false true b e = never refl e
+or-false false b e = (refl, e)
 
-  count-none : p .state ≡ 6 → semaphoreAt k (p .number) .count ≡ 0
-  unfolding semaphoreWaitb
-  count-none z = eqb-true (semaphoreAt k (p .number) .count) 0 (and-right (semaphoreAt k (p .number) .created) (eqb (semaphoreAt k (p .number) .count) 0) (Rolls.semaphore-waits p k S t here z))
+-- the calls of these numbers are for objects of that kind
+abbrev pub Own : Kind → List ℕ → Type 0
+Own d [] = Unit {0}
+Own d (n ∷ ns) = ((kindOf n ≡ d) × (limitOf n ≡ sizeOf d)) × Own d ns
 
-  free-none : p .state ≡ 8 → poolAt k (p .number) .free ≡ 0
-  unfolding poolWaitb
-  free-none z = eqb-true (poolAt k (p .number) .free) 0 (and-right (poolAt k (p .number) .created) (eqb (poolAt k (p .number) .free) 0) (Rolls.pool-waits p k S t here z))
+pub own-row : (d : Kind) → Own d (rowOf d .takes) × Own d (rowOf d .gives) × Own d (rowOf d .empties) × Own d (rowOf d .deletes) × Own d (rowOf d .prioritises)
+unfolding kindOf limitOf
+own-row semaphore = (((refl, refl), tt), ((refl, refl), ((refl, refl), tt)), tt, ((refl, refl), tt), ((refl, refl), tt))
+own-row queue = (((refl, refl), tt), ((refl, refl), ((refl, refl), tt)), ((refl, refl), tt), ((refl, refl), tt), ((refl, refl), tt))
+own-row group = (((refl, refl), tt), ((refl, refl), tt), tt, ((refl, refl), tt), tt)
+own-row pool = (((refl, refl), tt), ((refl, refl), tt), tt, ((refl, refl), tt), ((refl, refl), tt))
 
-  taking-undone : takesb p m ≡ true → Undone (at (m .number))
-  taking-undone g =
-      let a = takes-on p m g in
-      takes-by p m g
-      (λ z n. let l = Rolls.semaphore-low p k S t here z in
-      let i : min (m .a) 16 ≡ p .number = omega (arith, l, a) in
-      ap (λ (x : ℕ). eqb (at x .status) 0) n ∙ get-undone k (m .caller) (m .a) (m .b) (m .c) (m .d) (m .messages) (ap (λ (x : ℕ). semaphoreAt k x .count) i ∙ count-none z))
-      (λ z n. let l = Rolls.queue-low p k S t here z in
-      let i : min (m .a) 8 ≡ p .number = omega (arith, l, a) in
-      ap (λ (x : ℕ). eqb (at x .status) 0) n ∙ receive-undone k (m .caller) (m .a) (m .b) (m .c) (m .d) (m .messages) (ap (λ (x : ℕ). emptyb (queueAt k x)) i ∙ Rolls.queue-empty p k S t here z (L .receives z)))
-      (λ z n. let l = Rolls.pool-low p k S t here z in
-      let i : min (m .a) 4 ≡ p .number = omega (arith, l, a) in
-      ap (λ (x : ℕ). eqb (at x .status) 0) n ∙ allocate-undone k (m .caller) (m .a) (m .b) (m .c) (m .d) (m .messages) (ap (λ (x : ℕ). poolAt k x .free) i ∙ free-none z))
+own-kind : (d : Kind) (n : ℕ) (l : List ℕ) → Own d l → oneOf n l ≡ true → (kindOf n ≡ d) × (limitOf n ≡ sizeOf d)
+unfolding oneOf
+own-kind d n [] own o = never o refl
+own-kind d n (i ∷ l) own o = by-test (eqb n i) (λ e. rw (eqb-true n i e) (own .0)) (λ e. own-kind d n l (own .1) (or-rest (eqb n i) (oneOf n l) o e))
 
-  pub none-taken : (takesb p m && doneb (answer k m)) ≡ false
-  unfolding doneb answerOf
-  none-taken =
-      by-test (takesb p m)
-      (λ g. ap (λ (b : Bool). b && doneb (answer k m)) g ∙ ap (λ (x : Answer). eqb (x .status) 0) (Rolls.answer-is k S m) ∙ taking-undone g)
-      (λ g. ap (λ (b : Bool). b && doneb (answer k m)) g)
+module _ (d : Kind) (n : ℕ) (small : n < sizeOf d) (m : Made) where
+  -- its target is the object
+  on-target : (l : List ℕ) → Own d l → onb n m l ≡ true → (target m ≡ n) × (oneOf (m .number) l ≡ true)
+  unfolding onb
+  on-target l own o =
+      let a = eqb-true (m .a) n (and-left (eqb (m .a) n) (oneOf (m .number) l) o) in
+      let y = and-right (eqb (m .a) n) (oneOf (m .number) l) o in
+      let z = own-kind d (m .number) l own y .1 in
+      (omega (arith, a, z, small), y)
 
-  -- ---- giving
-  -- where the call is done, the first holds 0x00 and these words
-  abbrev Holds : List ℕ → Outcome → Type 0
-  Holds words x = eqb (x .status) 0 ≡ true → heldAt (x .kernel) (e .thread) ≡ holding Statuses.success words
+  pub target-on : (l : List ℕ) → Own d l → target m ≡ n → oneOf (m .number) l ≡ true → onb n m l ≡ true
+  unfolding onb
+  target-on l own a o = let z = own-kind d (m .number) l own o .1 in and-in (eqb (m .a) n) (oneOf (m .number) l) (eq-eqb (m .a) n (omega (arith, a, z, small))) o
 
-  refused-holds : (words : List ℕ) (s : ℕ) → eqb s 0 ≡ false → Holds words (refused k s)
-  unfolding refused
-  refused-holds words s z w = never w z
+  -- what holds of every call of a column on its target holds of one on the object
+  at-object : (Q : Kind → ℕ → Type 0) (l : Kind → List ℕ) → Own d (l d) → (oneOf (m .number) (l (kindOf (m .number))) ≡ true → Q (kindOf (m .number)) (target m)) → onb n m (l d) ≡ true → Q d n
+  at-object Q l own f g =
+      let o = on-target (l d) own g in
+      subst (Q d) (o .0) (subst (λ (c : Kind). oneOf (m .number) (l c) ≡ true → Q c (target m)) (own-kind d (m .number) (l d) own (o .1) .0) f (o .1))
 
-  abbrev waits : 4 < p .state
-  waits = Rolls.object-waits p o .0
+  module _ (k : Kernel) (e : Effect) (R : Role k (m .number) (target m) (m .b) (m .c) (m .messages) e) where
+    pub gives-at : givesb d n m ≡ true → Gives d k n (m .b) (m .c) (m .messages) e
+    unfolding givesb
+    gives-at = at-object (λ c i. Gives c k i (m .b) (m .c) (m .messages) e) (λ c. rowOf c .gives) (own-row d .1) (R .gives)
 
-  first-is : (q : Place) → q ≡ p → firstAt (k .scheduler) q ≡ e .thread
-  first-is q z = Steps.first-is p waits k S m e es (L .rolls) q z
+    pub takes-at : takesb d n m ≡ true → Takes d k n e
+    unfolding takesb
+    takes-at = at-object (λ c i. Takes c k i e) (λ c. rowOf c .takes) (own-row d .0) (R .takes)
 
-  first-low : (q : Place) → q ≡ p → firstAt (k .scheduler) q < 32
-  first-low q z = let i = first-is q z in let l = Steps.first-small p waits k S m e es (L .rolls) in omega (arith, i, l)
+    pub empties-at : onb n m (rowOf d .empties) ≡ true → (t : ℕ) → Taker d k n t → e .edits ≡ []
+    empties-at = at-object (λ c i. (t : ℕ) → Taker c k i t → e .edits ≡ []) (λ c. rowOf c .empties) (own-row d .2) (R .empties)
 
-  end-holds : (q : Place) → q ≡ p → (words ended : List ℕ) → Holds words (carried (endWait k (firstAt (k .scheduler) q) Statuses.success words) Statuses.success noWords ended)
-  unfolding carried endWait withHeld withScheduler heldAt
-  end-holds q z words ended w =
-      let f = firstAt (k .scheduler) q in
-      let l = first-low q z in
-      ap (λ (v : ℕ). getD (set (k .held) f (holding Statuses.success words)) v noHeld) (sym (first-is q z)) ∙ getD-set-same (k .held) f (holding Statuses.success words) noHeld (let h = S .heldSized in omega (arith, h, l))
+  abbrev p : Place
+  p = placeOf d n
 
-  put-holds : (n : ℕ) → Semaphores.semaphorePlace n ≡ p → Holds noWords (Semaphores.putOn k n)
-  unfolding Semaphores.putOn
-  put-holds n z =
-      by-choice (Holds noWords) (ltb (firstAt (k .scheduler) (Semaphores.semaphorePlace n)) 32) _ _
-      (λ f. end-holds (Semaphores.semaphorePlace n) z noWords _)
-      (λ f. never (lt-ltb _ 32 (first-low (Semaphores.semaphorePlace n) z)) f)
+  -- an edit of a column of which the call is not one of this object's is for another place
+  elsewhere : (c : Kind) (i : ℕ) (l : Kind → List ℕ) → Own d (l d) → onb n m (l d) ≡ false → eqb i (target m) ≡ true → oneOf (m .number) (l c) ≡ true → sameb p (placeOf c i) ≡ false
+  elsewhere c i l own f a y =
+      by-test (sameb p (placeOf c i))
+      (λ s. let z = Lines.same-place p (placeOf c i) s in
+      never (target-on (l d) own (sym (eqb-true i (target m) a) ∙ sym (ap (λ (x : Place). x .number) z)) (ap (λ (b : Kind). oneOf (m .number) (l b)) (Objects.same-kind d c (ap (λ (x : Place). x .state) z)) ∙ y)) f)
+      (λ s. s)
 
-  send-holds : (n wait : ℕ) (front : Bool) (message : List ℕ) → Queues.queuePlace n ≡ p → Holds message (Queues.sendTo k n (queueAt k n) wait front message)
-  unfolding Queues.sendTo
-  send-holds n wait front message z =
-      by-choice (Holds message) (roomb (queueAt k n)) _ _
-      (λ f. by-choice (Holds message) (ltb (firstAt (k .scheduler) (Queues.queuePlace n)) 32) _ _
-      (λ w. end-holds (Queues.queuePlace n) z message _)
-      (λ w. never (lt-ltb _ 32 (first-low (Queues.queuePlace n) z)) w))
-      (λ f. never (Rolls.room-at p k S t here (L .receives) n z) f)
+  -- where the object is not prioritised or deleted
+  module _ (calm : upsetsb d n m ≡ false) where
+    unranked : (e : Edit) → mayb (m .number) (target m) e ≡ true → Lines.unrankedb p e ≡ true
+    unfolding mayb Lines.unrankedb upsetsb
+    unranked (ranks c i) y = ap not (elsewhere c i (λ b. rowOf b .prioritises) (own-row d .4) (or-false _ _ calm .0) (and-left _ _ y) (and-right (eqb i (target m)) _ y))
+    unranked (moves t x) y = refl
+    unranked (alters t f) y = refl
+    unranked (counts t) y = refl
+    unranked (stores c i x) y = refl
+    unranked (sets i) y = refl
 
-  release-holds : (n block : ℕ) → Pools.poolPlace n ≡ p → Holds (oneWord block) (Pools.blockRelease k n block)
-  unfolding Pools.blockRelease
-  release-holds n block z =
-      guarded-by k (Holds (oneWord block)) (refused-holds (oneWord block)) _ _
-      (λ r. by-choice (Holds (oneWord block)) (ltb (firstAt (k .scheduler) (Pools.poolPlace n)) 32) _ _
-      (λ f. end-holds (Pools.poolPlace n) z (oneWord block) _)
-      (λ f. never (lt-ltb _ 32 (first-low (Pools.poolPlace n) z)) f))
+    pub all-unranked : (es : List Edit) → allb (mayb (m .number) (target m)) es ≡ true → allb (Lines.unrankedb p) es ≡ true
+    all-unranked = all-from (mayb (m .number) (target m)) (Lines.unrankedb p) unranked
 
-  module _ (on : m .a ≡ p .number) where
-    semaphore-there : p .state ≡ 6 → Semaphores.semaphorePlace (min (m .a) 16) ≡ p
-    semaphore-there z = let l = Rolls.semaphore-low p k S t here z in let y : min (m .a) 16 ≡ p .number = omega (arith, l, on) in λ j. record { state = sym z j; number = y j }
+    -- and nobody is served there, terminated, aborted or timed out, nobody leaves
+    module _ (g : givesb d n m ≡ false) (t : takesb d n m ≡ false) (z : onb n m (rowOf d .empties) ≡ false) (other : (eqb (m .number) 5 || eqb (m .number) 10) ≡ false) (untimed : eqb (m .number) 15 ≡ false) where
+      stays : (u : ℕ) (x : Move) → mayMoveb (m .number) (target m) u x ≡ true → leavesb p x ≡ false
+      unfolding mayMoveb leavesb givesb takesb upsetsb
+      stays u (ends (served c i) words) y =
+          let a = and-left (eqb i (target m)) _ y in
+          by-test (oneOf (m .number) (rowOf c .gives))
+          (λ w. elsewhere c i (λ b. rowOf b .gives) (own-row d .1) g a w)
+          (λ w. by-test (oneOf (m .number) (rowOf c .takes))
+          (λ v. elsewhere c i (λ b. rowOf b .takes) (own-row d .0) t a v)
+          (λ v. elsewhere c i (λ b. rowOf b .empties) (own-row d .2) z a (rw (w, v) at (and-right (eqb i (target m)) _ y))))
+      stays u (ends (deleted c i) words) y = elsewhere c i (λ b. rowOf b .deletes) (own-row d .3) (or-false (onb n m (rowOf d .prioritises)) _ calm .1) (and-left _ _ y) (and-right (eqb i (target m)) _ y)
+      stays u (ends timedOut words) y = never y untimed
+      stays u (ends aborted words) y = never (and-left (eqb (m .number) 10) _ y) (or-false (eqb (m .number) 5) _ other .1)
+      stays u (starts front state object ticks h) y = refl
+      stays u stops y = never (and-left (eqb (m .number) 5) _ y) (or-false (eqb (m .number) 5) _ other .0)
+      stays u (turns f h) y = refl
 
-    queue-number : p .state ≡ 5 → min (m .a) 8 ≡ p .number
-    queue-number z = let l = Rolls.queue-low p k S t here z in omega (arith, l, on)
-
-    queue-there : p .state ≡ 5 → Queues.queuePlace (min (m .a) 8) ≡ p
-    queue-there z = λ j. record { state = sym z j; number = queue-number z j }
-
-    put-19 : p .state ≡ 6 → Holds noWords (at 19)
-    unfolding General.step General.service decoded knownCall Semaphores.semaphorePut
-    put-19 z = known-by k (Holds noWords) (refused-holds noWords) (m .caller) (SemaphorePut (semaphoreNumber (m .a))) (m .messages) (guarded-by k (Holds noWords) (refused-holds noWords) _ _ (λ r. put-holds (min (m .a) 16) (semaphore-there z)))
-
-    put-20 : p .state ≡ 6 → Holds noWords (at 20)
-    unfolding General.step General.service decoded knownCall Semaphores.semaphoreCeilingPut
-    put-20 z = known-by k (Holds noWords) (refused-holds noWords) (m .caller) (SemaphoreCeilingPut (semaphoreNumber (m .a)) (m .b)) (m .messages) (guarded-by k (Holds noWords) (refused-holds noWords) _ _ (λ r. put-holds (min (m .a) 16) (semaphore-there z)))
-
-    abbrev message : List ℕ
-    message = messageIn (m .messages) (m .c) (queueAt k (min (m .a) 8) .words)
-
-    send-24 : p .state ≡ 5 → Holds message (at 24)
-    unfolding General.step General.service decoded knownCall Queues.queueSend
-    send-24 z = known-by k (Holds message) (refused-holds message) (m .caller) (QueueSend (queueNumber (m .a)) (m .b) (m .c)) (m .messages) (guarded-by k (Holds message) (refused-holds message) _ _ (λ r. send-holds (min (m .a) 8) (m .b) false message (queue-there z)))
-
-    send-25 : p .state ≡ 5 → Holds message (at 25)
-    unfolding General.step General.service decoded knownCall Queues.queueSend
-    send-25 z = known-by k (Holds message) (refused-holds message) (m .caller) (QueueFrontSend (queueNumber (m .a)) (m .b) (m .c)) (m .messages) (guarded-by k (Holds message) (refused-holds message) _ _ (λ r. send-holds (min (m .a) 8) (m .b) true message (queue-there z)))
-
-    pool-there : p .state ≡ 8 → Pools.poolPlace (min (m .a) 4) ≡ p
-    pool-there z = let l = Rolls.pool-low p k S t here z in let y : min (m .a) 4 ≡ p .number = omega (arith, l, on) in λ j. record { state = sym z j; number = y j }
-
-    release-36 : p .state ≡ 8 → Holds (oneWord (m .b)) (at 36)
-    unfolding General.step General.service decoded knownCall
-    release-36 z =
-        known-by k (Holds (oneWord (m .b))) (refused-holds (oneWord (m .b))) (m .caller) (BlockRelease (poolNumber (m .a)) (blockNumber (m .b))) (m .messages)
-        (subst (Holds (oneWord (m .b))) (sym (KeepsPools.release-number k S (min (m .a) 4) (m .b))) (release-holds (min (m .a) 4) (m .b) (pool-there z)))
-
-  words-6 : p .state ≡ 6 → givenWords p k m ≡ noWords
-  unfolding givenWords
-  words-6 z = rw z refl
-
-  words-5 : p .state ≡ 5 → givenWords p k m ≡ messageIn (m .messages) (m .c) (queueAt k (p .number) .words)
-  unfolding givenWords
-  words-5 z = rw z refl
-
-  words-8 : p .state ≡ 8 → givenWords p k m ≡ oneWord (m .b)
-  unfolding givenWords
-  words-8 z = rw z refl
-
-  -- with another number and other words for the same
-  as-given : (n : ℕ) (words : List ℕ) → m .number ≡ n → givenWords p k m ≡ words → Holds words (at n) → Holds (givenWords p k m) (at (m .number))
-  as-given n words i w h = subst (λ (x : ℕ). Holds (givenWords p k m) (at x)) (sym i) (subst (λ (x : List ℕ). Holds x (at n)) (sym w) h)
-
-  giving-holds : givesb p m ≡ true → Holds (givenWords p k m) (at (m .number))
-  giving-holds g =
-      let on = Steps.gives-on p m g in
-      gives-by p m g
-      (λ z n. as-given 19 noWords n (words-6 z) (put-19 on z))
-      (λ z n. as-given 20 noWords n (words-6 z) (put-20 on z))
-      (λ z n. as-given 24 (message on) n (words-5 z ∙ sym (ap (λ (x : ℕ). messageIn (m .messages) (m .c) (queueAt k x .words)) (queue-number on z))) (send-24 on z))
-      (λ z n. as-given 25 (message on) n (words-5 z ∙ sym (ap (λ (x : ℕ). messageIn (m .messages) (m .c) (queueAt k x .words)) (queue-number on z))) (send-25 on z))
-      (λ z n. as-given 36 (oneWord (m .b)) n (words-8 z) (release-36 on z))
-
-  pub first-holds : givesb p m ≡ true → doneb (answer k m) ≡ true → heldAt (next k m) (e .thread) ≡ holding Statuses.success (givenWords p k m)
-  unfolding doneb next answerOf
-  first-holds g d =
-      let i = Rolls.answer-is k S m in
-      ap (λ (x : Answer). heldAt (x .kernel) (e .thread)) i ∙ giving-holds g (sym (ap (λ (x : Answer). eqb (x .status) 0) i) ∙ d)
+      pub nobody-leaves : (es : List Edit) → allb (mayb (m .number) (target m)) es ≡ true → (movers (leavesb p) es ≡ []) × (counted es ≡ [])
+      unfolding mayb
+      nobody-leaves = none-move (leavesb p) (mayb (m .number) (target m)) stays (λ u y. never y untimed)

@@ -9,7 +9,7 @@ use borrow.Author.Tests.{eqb-true, ne-eqb}
 use Rattle.lines.specs.Logic.{oneIf, implies, allBelow}
 use Rattle.lines.specs.Lists.{filter, count, below, first, firstWith, leastOf, firstOfKey, bestOf}
 use Rattle.lines.specs.Lines.{members, pad, lineOf, cleanb}
-use Rattle.lines.proofs.Laws.Logic.{and-left, and-right, and-in, all-at, all-in, all-more}
+use Rattle.lines.proofs.Laws.Logic.{and-left, and-right, and-in, implies-out, implies-in, all-at, all-in, all-more}
 use Rattle.scheduler.specs.declared.thread.Thread.{Thread}
 use Rattle.scheduler.specs.Threads.{onQueue, onSemaphore, onFlags, onBlock, uncreated, noThread, readyb, waitsb, sleepsb, pausedb, standsb}
 use Rattle.scheduler.specs.Orders as Orders
@@ -31,7 +31,9 @@ use Rattle.waiting.proofs.Laws.Fit.{waits-nowhere}
 use Rattle.kernel.specs.declared.Kernel.{Kernel}
 use Rattle.kernel.specs.Tables.{started, threadOf, heldAt, semaphoreAt, queueAt, groupAt, poolAt}
 use Rattle.waiting.specs.Fit.{blankFrom, waitsOnb, sendsb, statusFitb, wordsFitb, senderFitb, requestFitb, unheldFitb, heldFitb, semaphoreWaitb, queueWaitb, groupWaitb, poolWaitb, semaphoresFitb, queuesFitb, groupsFitb, poolsFitb}
-use Rattle.kernel.specs.Sound.{waitFitb, soundb, Sound}
+use Rattle.kernel.specs.Kinds.{Kind, stateOn, objectAt, waitb}
+use Rattle.kernel.specs.Kinds.Kind.{semaphore, queue, group, pool}
+use Rattle.kernel.specs.Sound.{waitFitb, soundb, Objects, MayWait, Sound}
 
 -- ---- one thread more of a test of all
 pub one-more : (f : ℕ → Bool) (t : ℕ) (ok b : Bool) → ok ≡ allBelow t f → b ≡ f t → (ok && b) ≡ allBelow (t + 1) f
@@ -141,6 +143,38 @@ module _ (k : Kernel) (t : ℕ) (th : Thread) (e : th ≡ threadOf k t) where
   past-pools o w = sym (waits-pool noPool (sym (List·getD-eq-default (k .pools) noPool o)) w)
 
 -- ---- the test and soundness
+by-kind : (P : Kind → Type 0) → P semaphore → P queue → P group → P pool → (d : Kind) → P d
+by-kind P s q g p semaphore = s
+by-kind P s q g p queue = q
+by-kind P s q g p group = g
+by-kind P s q g p pool = p
+
+-- what is asked of the object that a thread waits on, kind by kind
+module _ (k : Kernel) (t : ℕ) where
+  abbrev onQ : Bool
+  onQ = implies (waitsOnb onQueue (threadOf k t)) (queueWaitb (heldAt k t) (queueAt k (threadOf k t .object)))
+
+  abbrev onS : Bool
+  onS = implies (waitsOnb onSemaphore (threadOf k t)) (semaphoreWaitb (semaphoreAt k (threadOf k t .object)))
+
+  abbrev onG : Bool
+  onG = implies (waitsOnb onFlags (threadOf k t)) (groupWaitb (heldAt k t) (groupAt k (threadOf k t .object)))
+
+  abbrev onP : Bool
+  onP = implies (waitsOnb onBlock (threadOf k t)) (poolWaitb (poolAt k (threadOf k t .object)))
+
+  asked : waitFitb k t ≡ true → MayWait k (threadOf k t) (heldAt k t)
+  unfolding waitFitb
+  asked w =
+      let c = and-left (onQ && onS && onG) onP w in
+      let b = and-left (onQ && onS) onG c in
+      by-kind (λ d. waitsOnb (stateOn d) (threadOf k t) ≡ true → waitb d (heldAt k t) (objectAt d k (threadOf k t .object)) ≡ true)
+      (implies-out _ _ (and-right onQ onS b)) (implies-out _ _ (and-left onQ onS b)) (implies-out _ _ (and-right (onQ && onS) onG c)) (implies-out _ _ (and-right (onQ && onS && onG) onP w))
+
+  asks : MayWait k (threadOf k t) (heldAt k t) → waitFitb k t ≡ true
+  unfolding waitFitb
+  asks W = and-in (onQ && onS && onG) onP (and-in (onQ && onS) onG (and-in onQ onS (implies-in _ _ (W queue)) (implies-in _ _ (W semaphore))) (implies-in _ _ (W group))) (implies-in _ _ (W pool))
+
 module _ (k : Kernel) where
   abbrev heldTest : ℕ → Bool
   heldTest t = heldFitb (threadOf k t) (heldAt k t)
@@ -189,30 +223,33 @@ module _ (k : Kernel) where
       let s = and-left to-semaphores (allBelow 8 queueTest) q in
       let w = and-left to-waits (allBelow 16 semaphoreTest) s in
       let h = and-left to-held (allBelow 32 (waitFitb k)) w in
+      let t = Testing.tested (k .scheduler) zt (and-left (Scheduling.soundb (k .scheduler)) (allBelow 32 heldTest) h) in
+      let objects : (d : Kind) → Objects d k = by-kind (λ d. Objects d k)
+      (record { sized = zs; fit = all-at 16 semaphoreTest (and-right to-waits (allBelow 16 semaphoreTest) s) })
+      (record { sized = zq; fit = all-at 8 queueTest (and-right to-semaphores (allBelow 8 queueTest) q) })
+      (record { sized = zg; fit = all-at 8 groupTest (and-right to-queues (allBelow 8 groupTest) g) })
+      (record { sized = zp; fit = all-at 4 poolTest (and-right to-groups (allBelow 4 poolTest) e) }) in
       record {
-        scheduler = Testing.tested (k .scheduler) zt (and-left (Scheduling.soundb (k .scheduler)) (allBelow 32 heldTest) h);
-        heldSized = zh;
-        semaphoresSized = zs;
-        queuesSized = zq;
-        groupsSized = zg;
-        poolsSized = zp;
-        held = all-at 32 heldTest (and-right (Scheduling.soundb (k .scheduler)) (allBelow 32 heldTest) h);
-        waits = all-at 32 (waitFitb k) (and-right to-held (allBelow 32 (waitFitb k)) w);
-        semaphores = all-at 16 semaphoreTest (and-right to-waits (allBelow 16 semaphoreTest) s);
-        queues = all-at 8 queueTest (and-right to-semaphores (allBelow 8 queueTest) q);
-        groups = all-at 8 groupTest (and-right to-queues (allBelow 8 groupTest) g);
-        pools = all-at 4 poolTest (and-right to-groups (allBelow 4 poolTest) e);
+        fit = record {
+          steady = t .steady;
+          heldSized = zh;
+          held = all-at 32 heldTest (and-right (Scheduling.soundb (k .scheduler)) (allBelow 32 heldTest) h);
+          waits = λ u l. asked k u (all-at 32 (waitFitb k) (and-right to-held (allBelow 32 (waitFitb k)) w) u l);
+          objects = objects;
+        };
+        runs = t .runs;
       }
 
   pub passes : Sound k → soundb k ≡ true
   unfolding soundb semaphoresFitb queuesFitb groupsFitb poolsFitb semaphoreAt queueAt groupAt poolAt
   passes S =
-      let h = and-in (Scheduling.soundb (k .scheduler)) (allBelow 32 heldTest) (Testing.passes (k .scheduler) (S .scheduler)) (all-in 32 heldTest (S .held)) in
-      let w = and-in to-held (allBelow 32 (waitFitb k)) h (all-in 32 (waitFitb k) (S .waits)) in
-      let s = and-in to-waits (allBelow 16 semaphoreTest) w (all-in 16 semaphoreTest (S .semaphores)) in
-      let q = and-in to-semaphores (allBelow 8 queueTest) s (all-in 8 queueTest (S .queues)) in
-      let g = and-in to-queues (allBelow 8 groupTest) q (all-in 8 groupTest (S .groups)) in
-      and-in to-groups (allBelow 4 poolTest) g (all-in 4 poolTest (S .pools))
+      let F = S .fit in
+      let h = and-in (Scheduling.soundb (k .scheduler)) (allBelow 32 heldTest) (Testing.passes (k .scheduler) (record { steady = F .steady; runs = S .runs })) (all-in 32 heldTest (F .held)) in
+      let w = and-in to-held (allBelow 32 (waitFitb k)) h (all-in 32 (waitFitb k) (λ t l. asks k t (F .waits t l))) in
+      let s = and-in to-waits (allBelow 16 semaphoreTest) w (all-in 16 semaphoreTest (F .objects semaphore .fit)) in
+      let q = and-in to-semaphores (allBelow 8 queueTest) s (all-in 8 queueTest (F .objects queue .fit)) in
+      let g = and-in to-queues (allBelow 8 groupTest) q (all-in 8 groupTest (F .objects group .fit)) in
+      and-in to-groups (allBelow 4 poolTest) g (all-in 4 poolTest (F .objects pool .fit))
 
 -- ---- nothing created
 started-passes : soundb started ≡ true

@@ -1,0 +1,6 @@
+pub mod Threads
+pub mod Clock
+pub mod Semaphores
+pub mod Queues
+pub mod Groups
+pub mod Pools

@@ -1,0 +1,126 @@
+-- What a call does: it is refused for a reason, or it carries out an effect. What follows from that for every call.
+use mathlib.Core.Path.{_≡_, refl, sym, ap, _∙_}
+use mathlib.Core.List.{List, [], _∷_}
+use mathlib.Core.Bool.{Bool, true, false}
+use Prim.Native.Nat.{ℕ, _<_, _≤_}
+use native.Mathlib.Omega.{arith}
+use lib.Dec.{eqb}
+use borrow.Author.Tests.{ne-eqb}
+use Rattle.lines.specs.Lists.{count}
+use Rattle.lines.proofs.Laws.Logic.{by-eq, never}
+use Rattle.scheduler.specs.declared.thread.Thread.{Thread}
+use Rattle.scheduler.specs.declared.thread.Place.{Place}
+use Rattle.scheduler.specs.Orders.{lineAt}
+use Rattle.scheduler.specs.Choice.{withMark}
+use Rattle.scheduler.proofs.Laws.Choosing
+use Rattle.kernel.specs.declared.Kernel.{Kernel}
+use Rattle.kernel.specs.Tables.{runnerOf, heldAt, withScheduler}
+use Rattle.kernel.specs.Answers.{Outcome, refused, guarded}
+use Rattle.kernel.specs.Claims.{doneb, Unchanged}
+use Rattle.kernel.specs.Sound.{Sound}
+use Rattle.kernel.proofs.Laws.Answers.{is-refused, is-carried}
+use Rattle.kernel.specs.Kinds.{Kind, tableOf}
+use Rattle.kernel.specs.Sound.{Fit}
+use Rattle.kernel.specs.Edits.{Move, Edit, Success, Effect, statusOf, startsb, anyb, movers, applied, carriedOut}
+use Rattle.kernel.specs.Edits.Edit.{moves, alters}
+use Rattle.kernel.specs.Edits.Success.{done, lifted, waits}
+use Rattle.kernel.specs.Roles.{mayb, allb}
+use Rattle.kernel.specs.Effects.{Role}
+use Rattle.kernel.proofs.Laws.Objects
+use Rattle.kernel.proofs.Laws.Fits
+use Rattle.kernel.proofs.Laws.Lines
+use Rattle.kernel.proofs.Laws.Fates
+
+-- ---- one call
+-- with 0x101 the caller waits and nothing else happens, with 0x19 one record changes, with 0x00 nobody begins to wait
+abbrev pub Shape : Success → List Edit → Type 0
+Shape done es = allb Lines.unstartedb es ≡ true
+Shape lifted es = (t : ℕ) × (f : Thread → Thread) × (es ≡ alters t f ∷ [])
+Shape waits es = (t : ℕ) × (m : Move) × (startsb m ≡ true) × (es ≡ moves t m ∷ [])
+
+-- an effect of the call of number n with first argument a: each edit is firm, the tables are sound but for the runner at the end, nobody
+-- moves twice, and the edits are such as a call of that number may do
+pub record Proper (k : Kernel) (n a : ℕ) (e : Effect) : Type 0 where
+  pub firm : Fits.Firms k (e .edits)
+  pub fit : Fit (applied k (e .edits))
+  pub once : (u : ℕ) → count u (movers anyb (e .edits)) ≤ 1
+  pub may : allb (mayb n a) (e .edits) ≡ true
+  pub shape : Shape (e .success) (e .edits)
+
+-- the one theorem of a call
+pub record Does (k : Kernel) (caller n a b c : ℕ) (messages : List ℕ) (o : Outcome) : Type 0 where
+  pub reason : ℕ
+  pub effect : Effect
+  pub is : o ≡ guarded k reason (carriedOut k effect)
+  pub proper : Sound k → (eqb caller 2 ≡ true → runnerOf k < 32) → reason ≡ 0 → Proper k n a effect
+  pub role : Sound k → reason ≡ 0 → Role k n a b c messages effect
+
+-- ---- any call on sound tables
+pub data Step (k : Kernel) (n a b c : ℕ) (messages : List ℕ) (o : Outcome) : Type 0 where
+  refuses : (s : ℕ) → eqb s 0 ≡ false → o ≡ refused k s → Step k n a b c messages o
+  carries : (e : Effect) → o ≡ carriedOut k e → Proper k n a e → Role k n a b c messages e → Step k n a b c messages o
+
+pub step-of : (k : Kernel) → Sound k → (caller n a b c : ℕ) (messages : List ℕ) (o : Outcome) → (eqb caller 2 ≡ true → runnerOf k < 32) → Does k caller n a b c messages o → Step k n a b c messages o
+step-of k S caller n a b c messages o runs D =
+    by-eq (D .reason) 0
+    (λ z. carries (D .effect) (D .is ∙ is-carried k (D .reason) (carriedOut k (D .effect)) z) (D .proper S runs z) (D .role S z))
+    (λ z. refuses (D .reason) (ne-eqb (D .reason) 0 z) (D .is ∙ is-refused k (D .reason) (carriedOut k (D .effect)) z))
+
+-- to wait is not to be done
+doneOf : Success → Bool
+doneOf done = true
+doneOf lifted = false
+doneOf waits = false
+
+pub waits-not-done : {P : Type 0} → waits ≡ done → P
+unfolding doneOf
+waits-not-done e = never {b = doneOf done} refl (ap doneOf (sym e))
+
+-- ---- a refused call changes nothing, on any tables
+done-status : (s : Success) → doneb (statusOf s) ≡ true
+unfolding doneb statusOf
+done-status done = refl
+done-status lifted = refl
+done-status waits = refl
+
+pub does-refused : (k : Kernel) (caller n a b c : ℕ) (messages : List ℕ) (o : Outcome) → Does k caller n a b c messages o → doneb (o .status) ≡ false → Unchanged k o
+unfolding refused carriedOut
+does-refused k caller n a b c messages o D u =
+    by-eq (D .reason) 0
+    (λ z. never (done-status (D .effect .success)) (ap (λ (x : Outcome). doneb (x .status)) (sym (D .is ∙ is-carried k (D .reason) (carriedOut k (D .effect)) z)) ∙ u))
+    (λ z. let r = D .is ∙ is-refused k (D .reason) (carriedOut k (D .effect)) z in
+    record { kernel = ap (λ (x : Outcome). x .kernel) r; words = ap (λ (x : Outcome). x .words) r; ended = ap (λ (x : Outcome). x .ended) r })
+
+-- ---- after the choice
+module _ (k : Kernel) (n a : ℕ) (e : Effect) (P : Proper k n a e) where
+  abbrev x : Kernel
+  x = carriedOut k e .kernel
+
+  pub chosen-fit : Fit x
+  unfolding carriedOut
+  chosen-fit = Fits.fit-chosen (applied k (e .edits)) (P .fit) (e .relinquishes)
+
+  pub chosen-line : (p : Place) → lineAt (x .scheduler) p ≡ lineAt (applied k (e .edits) .scheduler) p
+  unfolding carriedOut withScheduler
+  chosen-line p = Choosing.rescheduled-line (applied k (e .edits) .scheduler) (P .fit .steady) (e .relinquishes) p
+
+  mark-seen : (b : Bool) (th : Thread) → Fits.seen (withMark b th) ≡ Fits.seen th
+  unfolding Fits.seen withMark
+  mark-seen b th = refl
+
+  mark-ticks : (b : Bool) (th : Thread) → withMark b th .ticks ≡ th .ticks
+  unfolding withMark
+  mark-ticks b th = refl
+
+  pub chosen-kept : (u : ℕ) → Fates.Kept (applied k (e .edits)) x u 0
+  unfolding carriedOut withScheduler heldAt
+  chosen-kept u =
+      record {
+        held = refl;
+        seen = Choosing.rescheduled-keeps (applied k (e .edits) .scheduler) (P .fit .steady) Fits.seen mark-seen (e .relinquishes) u;
+        ticks = (let q = Choosing.rescheduled-keeps (applied k (e .edits) .scheduler) (P .fit .steady) (λ y. y .ticks) mark-ticks (e .relinquishes) u in omega (arith, q));
+      }
+
+  pub chosen-table : (d : Kind) → tableOf d x ≡ tableOf d (applied k (e .edits))
+  unfolding carriedOut
+  chosen-table d = Objects.table-scheduler (applied k (e .edits)) _ d

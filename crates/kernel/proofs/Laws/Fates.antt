@@ -1,0 +1,254 @@
+-- What becomes of each thread by any edits: its record, its ticks and what it holds.
+use mathlib.Core.Path.{_≡_, refl, sym, ap, _∙_}
+use mathlib.Core.List.{List, [], _∷_}
+use mathlib.Core.Bool.{Bool, true, false}
+use Prim.Native.Nat.{ℕ, _+_, _-_}
+use native.Mathlib.Omega.{arith}
+use lib.ListN.{length, getD, length-set}
+use lib.Seq.{getD-set-same, getD-set-other}
+use Rattle.lines.specs.Lists.{count}
+use Rattle.lines.proofs.Laws.Logic.{by-eq}
+use Rattle.lines.proofs.Laws.Lists
+use Rattle.scheduler.specs.declared.thread.Thread.{Thread}
+use Rattle.scheduler.specs.declared.Scheduler.{Scheduler}
+use Rattle.scheduler.specs.Threads.{pausedb}
+use Rattle.scheduler.specs.Orders.{threadAt, withOrder, withThread, prioritisedAt}
+use Rattle.scheduler.specs.Sound.{Steady}
+use Rattle.scheduler.proofs.Laws.Orders
+use Rattle.calls.specs.declared.held.Held.{Held}
+use Rattle.calls.specs.Held.{noHeld}
+use Rattle.waiting.specs.Ticks.{withTicks}
+use Rattle.waiting.specs.Fit.{waitsOnb}
+use Rattle.waiting.proofs.Laws.Fit.{waits-nowhere}
+use Rattle.kernel.specs.declared.Kernel.{Kernel}
+use Rattle.kernel.specs.Tables.{threadOf, heldAt, withScheduler, withHeld, withClock}
+use Rattle.kernel.specs.Kinds.{Kind, stateOn}
+use Rattle.kernel.specs.Edits.{Move, Edit, recordBy, heldBy, frontb, startsb, anyb, edited, applied, movers, counted}
+use Rattle.kernel.specs.Edits.Edit.{moves, alters, counts, ranks, stores, sets}
+use Rattle.kernel.specs.Roles.{allb}
+use Rattle.kernel.proofs.Laws.Objects
+use Rattle.kernel.proofs.Laws.Fits
+use Rattle.kernel.proofs.Laws.Lines
+
+-- from tables k to tables x thread u has n ticks less, and keeps its state, its object and what it holds
+pub record Kept (k x : Kernel) (u n : ℕ) : Type 0 where
+  pub held : heldAt x u ≡ heldAt k u
+  pub seen : Fits.seen (threadOf x u) ≡ Fits.seen (threadOf k u)
+  pub ticks : threadOf x u .ticks ≡ threadOf k u .ticks - n
+
+pub kept-then : (k x y : Kernel) (u n m : ℕ) → Kept k x u n → Kept x y u m → Kept k y u (n + m)
+kept-then k x y u n m a b =
+    record {
+      held = b .held ∙ a .held;
+      seen = b .seen ∙ a .seen;
+      ticks = (let p = a .ticks in let q = b .ticks in omega (arith, p, q));
+    }
+
+pub kept-self : (k : Kernel) (u : ℕ) → Kept k k u 0
+kept-self k u = record { held = refl; seen = refl; ticks = omega arith }
+
+kept-same : (k x : Kernel) (u : ℕ) → heldAt x u ≡ heldAt k u → threadOf x u ≡ threadOf k u → Kept k x u 0
+kept-same k x u h t = record { held = h; seen = ap Fits.seen t; ticks = (let e = ap (λ (th : Thread). th .ticks) t in omega (arith, e)) }
+
+-- ---- an edit that does not move the thread
+other-than : (u t : ℕ) (ts : List ℕ) → count u (t ∷ ts) ≡ 0 → u ≡ t → ⊥
+other-than u t ts z e = let h = Lists.count-here t ts in let y = ap (λ (v : ℕ). count v (t ∷ ts)) e in omega (arith, h, y, z)
+
+scheduler-held : (k : Kernel) (s : Scheduler) (u : ℕ) → heldAt (withScheduler k s) u ≡ heldAt k u
+unfolding withScheduler heldAt
+scheduler-held k s u = refl
+
+kept-altered : (k : Kernel) → Steady (k .scheduler) → (t : ℕ) (th : Thread) → Fits.Altered k t th → th .ticks ≡ threadOf k t .ticks → (u : ℕ) → Kept k (withScheduler k (withThread (k .scheduler) t th)) u 0
+unfolding withScheduler
+kept-altered k S t th A e u =
+    record {
+      held = scheduler-held k (withThread (k .scheduler) t th) u;
+      seen = Orders.kept-all (k .scheduler) S t th (A .small) Fits.seen (A .seen) u;
+      ticks = (let q = Orders.kept-all (k .scheduler) S t th (A .small) (λ x. x .ticks) e u in omega (arith, q));
+    }
+
+kept-counted : (k : Kernel) → Steady (k .scheduler) → (t : ℕ) → Fits.Firm k (counts t) → (u : ℕ) → Kept k (edited k (counts t)) u (count u (t ∷ []))
+unfolding edited withScheduler withTicks
+kept-counted k S t G u =
+    let A = Fits.one-less k S t (G .0) (G .1) in
+    let x = withTicks (threadOf k t .ticks - 1) (threadOf k t) in
+    by-eq u t
+    (λ e. record {
+      held = scheduler-held k (withThread (k .scheduler) t x) u;
+      seen = Orders.kept-all (k .scheduler) S t x (A .small) Fits.seen (A .seen) u;
+      ticks = (let c = ap (λ (v : ℕ). count v (t ∷ [])) e in let h = Lists.count-here t [] in let z = Lines.count-none t in
+          let q = ap (λ (v : ℕ). threadAt (withThread (k .scheduler) t x) v .ticks) e ∙ ap (λ (y : Thread). y .ticks) (Orders.kept-self (k .scheduler) S t x (A .small)) in
+          let r = ap (λ (v : ℕ). threadOf k v .ticks) e in omega (arith, c, h, z, q, r));
+    })
+    (λ e. record {
+      held = scheduler-held k (withThread (k .scheduler) t x) u;
+      seen = ap Fits.seen (Orders.kept-other (k .scheduler) S t x (A .small) u e);
+      ticks = (let c = Lists.count-there u t [] (λ z. e (sym z)) in let z = Lines.count-none u in
+          let q = ap (λ (y : Thread). y .ticks) (Orders.kept-other (k .scheduler) S t x (A .small) u e) in omega (arith, c, z, q));
+    })
+
+pub kept-moved : (k : Kernel) → Steady (k .scheduler) → (t : ℕ) (m : Move) → Fits.Moved k t m → (u : ℕ) → (u ≡ t → ⊥) → Kept k (edited k (moves t m)) u 0
+unfolding edited withHeld withScheduler heldAt
+kept-moved k S t m G u e =
+    kept-same k _ u (getD-set-other (k .held) t u _ noHeld e) (Fits.joined-other (k .scheduler) S (frontb m) t (recordBy m (threadOf k t)) (G .small) u e)
+
+kept-ranked : (k : Kernel) (s : Scheduler) (u : ℕ) → threadAt s u ≡ threadOf k u → Kept k (withScheduler k s) u 0
+unfolding withScheduler
+kept-ranked k s u e = kept-same k (withScheduler k s) u (scheduler-held k s u) e
+
+kept-clock : (k : Kernel) (c u : ℕ) → Kept k (withClock k c) u 0
+unfolding withClock heldAt
+kept-clock k c u = kept-same k (withClock k c) u refl refl
+
+kept-edit : (k : Kernel) → Steady (k .scheduler) → (e : Edit) → Fits.Firm k e → (u : ℕ) → count u (movers anyb (e ∷ [])) ≡ 0 → Kept k (edited k e) u (count u (counted (e ∷ [])))
+unfolding edited movers counted count prioritisedAt withOrder threadAt heldAt
+kept-edit k S (moves t m) G u z = kept-moved k S t m G u (other-than u t [] z)
+kept-edit k S (alters t f) G u z = kept-altered k S t (f (threadOf k t)) (G .0) (G .1) u
+kept-edit k S (counts t) G u z = kept-counted k S t G u
+kept-edit k S (ranks d n) G u z = kept-ranked k _ u refl
+kept-edit k S (stores d n x) G u z =
+    kept-same k _ u (ap (λ (l : List Held). getD l u noHeld) (Objects.stored-held d k n x)) (ap (λ (s : Scheduler). threadAt s u) (Objects.stored-scheduler d k n x))
+kept-edit k S (sets c) G u z = kept-clock k c u
+
+counted-then : (e : Edit) (es : List Edit) (u : ℕ) → count u (counted (e ∷ es)) ≡ count u (counted (e ∷ [])) + count u (counted es)
+unfolding counted
+counted-then (moves t m) es u = Lists.count-append u [] (counted es)
+counted-then (alters t f) es u = Lists.count-append u [] (counted es)
+counted-then (counts t) es u = Lists.count-append u (t ∷ []) (counted es)
+counted-then (ranks d n) es u = Lists.count-append u [] (counted es)
+counted-then (stores d n x) es u = Lists.count-append u [] (counted es)
+counted-then (sets c) es u = Lists.count-append u [] (counted es)
+
+pub movers-count : (c : Move → Bool) (e : Edit) (es : List Edit) (u : ℕ) → count u (movers c (e ∷ es)) ≡ count u (movers c (e ∷ [])) + count u (movers c es)
+movers-count c e es u = ap (count u) (Lines.movers-then c e es) ∙ Lists.count-append u (movers c (e ∷ [])) (movers c es)
+
+-- ---- edits none of which moves the thread
+none-moved : (u : ℕ) → count u (counted []) ≡ 0
+unfolding counted count
+none-moved u = refl
+
+pub kept-all : (k : Kernel) → Steady (k .scheduler) → (es : List Edit) → Fits.Firms k es → (u : ℕ) → count u (movers anyb es) ≡ 0 → Kept k (applied k es) u (count u (counted es))
+unfolding applied
+kept-all k S [] G u z = rw (none-moved u) (kept-self k u)
+kept-all k S (e ∷ es) G u z =
+    let c = movers-count anyb e es u in
+    rw (counted-then e es u)
+    (kept-then k (edited k e) (applied (edited k e) es) u _ _ (kept-edit k S e (G .0) u (omega (arith, c, z)))
+    (kept-all (edited k e) (Fits.steady-edit k S e (G .0)) es (G .1) u (omega (arith, c, z))))
+
+-- ---- a thread that moves, once
+-- some edit moves u in the way m: whatever holds of every edit holds of that one
+abbrev pub Among : ℕ → Move → List Edit → Type 0
+Among u m es = (f : Edit → Bool) → allb f es ≡ true → f (moves u m) ≡ true
+
+-- in tables y, where it is as it was, u moves in the way m, and so it is in tables x
+pub record Went (k x : Kernel) (es : List Edit) (u : ℕ) : Type 0 where
+  pub at : Kernel
+  pub less : ℕ
+  pub kept : Kept k at u less
+  pub move : Move
+  pub among : Among u move es
+  pub was : Fits.Was move (threadOf at u)
+  pub is : pausedb (recordBy move (threadOf at u)) ≡ startsb move
+  pub held : heldAt x u ≡ heldBy move (threadOf at u) (heldAt at u)
+  pub seen : Fits.seen (threadOf x u) ≡ Fits.seen (recordBy move (threadOf at u))
+
+-- what holds of an edit, in a list that begins with another
+later : (u : ℕ) (m : Move) (e : Edit) (es : List Edit) → Among u m es → Among u m (e ∷ es)
+later u m e es A f a = A f (Lines.all-rest f e es a)
+
+sized-edit : (k : Kernel) (e : Edit) → length (k .held) ≡ 32 → length (edited k e .held) ≡ 32
+unfolding edited withHeld withScheduler withClock
+sized-edit k (moves t m) z = length-set (k .held) t _ ∙ z
+sized-edit k (alters t f) z = z
+sized-edit k (counts t) z = z
+sized-edit k (ranks d n) z = z
+sized-edit k (stores d n x) z = ap (λ (l : List Held). length l) (Objects.stored-held d k n x) ∙ z
+sized-edit k (sets c) z = z
+
+moved-self : (k : Kernel) → Steady (k .scheduler) → length (k .held) ≡ 32 → (t : ℕ) (m : Move) → Fits.Moved k t m
+    → (heldAt (edited k (moves t m)) t ≡ heldBy m (threadOf k t) (heldAt k t)) × (threadOf (edited k (moves t m)) t ≡ recordBy m (threadOf k t))
+unfolding edited withHeld withScheduler heldAt
+moved-self k S z t m G = (
+  getD-set-same (k .held) t _ noHeld (let l = G .small in omega (arith, z, l)),
+  Fits.joined-self (k .scheduler) S (frontb m) t (recordBy m (threadOf k t)) (G .small),
+)
+
+-- the edit that moves it is the first
+went-first : (k : Kernel) → Steady (k .scheduler) → length (k .held) ≡ 32 → (t : ℕ) (m : Move) (es : List Edit) → Fits.Firms k (moves t m ∷ es) → (u : ℕ) → u ≡ t → count u (movers anyb es) ≡ 0 → Went k (applied k (moves t m ∷ es)) (moves t m ∷ es) u
+unfolding applied
+went-first k S z t m es G u e n =
+    let x = edited k (moves t m) in
+    let rest = kept-all x (Fits.steady-edit k S (moves t m) (G .0)) es (G .1) u n in
+    let self = moved-self k S z t m (G .0) in
+    record {
+      at = k;
+      less = 0;
+      kept = kept-self k u;
+      move = m;
+      among = λ f a. ap (λ (v : ℕ). f (moves v m)) e ∙ Lines.all-first f (moves t m) es a;
+      was = rw e (G .0 .was);
+      is = rw e (G .0 .is);
+      held = rest .held ∙ rw e (self .0);
+      seen = rest .seen ∙ rw e (ap Fits.seen (self .1));
+    }
+
+went-later : (k : Kernel) (e : Edit) (es : List Edit) (u n : ℕ) → Kept k (edited k e) u n → Went (edited k e) (applied (edited k e) es) es u → Went k (applied k (e ∷ es)) (e ∷ es) u
+unfolding applied
+went-later k e es u n a W =
+    record {
+      at = W .at;
+      less = n + W .less;
+      kept = kept-then k (edited k e) (W .at) u n (W .less) a (W .kept);
+      move = W .move;
+      among = later u (W .move) e es (W .among);
+      was = W .was;
+      is = W .is;
+      held = W .held;
+      seen = W .seen;
+    }
+
+unmoved-first : (u : ℕ) → count u (movers anyb []) ≡ 0
+unfolding movers count
+unmoved-first u = refl
+
+moved-first : (t u : ℕ) (m : Move) → (u ≡ t → ⊥) → count u (movers anyb (moves t m ∷ [])) ≡ 0
+unfolding movers
+moved-first t u m e = Lists.count-there u t [] (λ z. e (sym z)) ∙ Lines.count-none u
+
+moved-here : (t u : ℕ) (m : Move) → u ≡ t → count u (movers anyb (moves t m ∷ [])) ≡ 1
+unfolding movers
+moved-here t u m e = let h = Lists.count-here t [] in let z = Lines.count-none t in let y = ap (λ (v : ℕ). count v (t ∷ [])) e in omega (arith, h, z, y)
+
+went-head : (k : Kernel) → Steady (k .scheduler) → length (k .held) ≡ 32 → (e : Edit) (es : List Edit) → Fits.Firms k (e ∷ es) → (u : ℕ) → (count u (movers anyb (e ∷ [])) ≡ 0 → ⊥) → count u (movers anyb (e ∷ es)) ≡ 1 → Went k (applied k (e ∷ es)) (e ∷ es) u
+unfolding movers
+went-head k S z (moves t m) es G u n c =
+    by-eq u t
+    (λ e. went-first k S z t m es G u e (let s = movers-count anyb (moves t m) es u in let h = moved-here t u m e in omega (arith, s, c, h)))
+    (λ e. absurd (n (moved-first t u m e)))
+went-head k S z (alters t f) es G u n c = absurd (n (unmoved-first u))
+went-head k S z (counts t) es G u n c = absurd (n (unmoved-first u))
+went-head k S z (ranks d i) es G u n c = absurd (n (unmoved-first u))
+went-head k S z (stores d i x) es G u n c = absurd (n (unmoved-first u))
+went-head k S z (sets i) es G u n c = absurd (n (unmoved-first u))
+
+pub went : (k : Kernel) → Steady (k .scheduler) → length (k .held) ≡ 32 → (es : List Edit) → Fits.Firms k es → (u : ℕ) → count u (movers anyb es) ≡ 1 → Went k (applied k es) es u
+went k S z [] G u c = absurd (let n = unmoved-first u in omega (arith, n, c))
+went k S z (e ∷ es) G u c =
+    by-eq (count u (movers anyb (e ∷ []))) 0
+    (λ n. went-later k e es u _ (kept-edit k S e (G .0) u n)
+    (went (edited k e) (Fits.steady-edit k S e (G .0)) (sized-edit k e z) es (G .1) u (let s = movers-count anyb e es u in omega (arith, s, c, n))))
+    (λ n. went-head k S z e es G u n c)
+
+-- who moved and did not begin to wait waits on nothing
+pub went-waits : (k x : Kernel) (es : List Edit) (u : ℕ) (W : Went k x es u) → startsb (W .move) ≡ false → (d : Kind) → waitsOnb (stateOn d) (threadOf x u) ≡ false
+went-waits k x es u W n d =
+    let th = recordBy (W .move) (threadOf (W .at) u) in
+    sym (Fits.waits-seen (stateOn d) (threadOf x u)) ∙ ap (waitsOnb (stateOn d)) (W .seen) ∙ Fits.waits-seen (stateOn d) th ∙ waits-nowhere (stateOn d) th (Objects.state-low d) (W .is ∙ n)
+
+-- who is kept waits on what it waited on
+pub kept-waits : (k x : Kernel) (u n : ℕ) → Kept k x u n → (state : ℕ) → waitsOnb state (threadOf k u) ≡ waitsOnb state (threadOf x u)
+kept-waits k x u n K state = sym (Fits.waits-seen state (threadOf k u)) ∙ ap (waitsOnb state) (sym (K .seen)) ∙ Fits.waits-seen state (threadOf x u)
+
+pub kept-object : (k x : Kernel) (u n : ℕ) → Kept k x u n → threadOf k u .object ≡ threadOf x u .object
+kept-object k x u n K = sym (Fits.object-seen (threadOf k u)) ∙ ap (λ (th : Thread). th .object) (sym (K .seen)) ∙ Fits.object-seen (threadOf x u)

@@ -1,0 +1,250 @@
+-- The line of every place after any edits.
+use mathlib.Core.Path.{_≡_, refl, sym, ap, _∙_}
+use mathlib.Core.List.{List, [], _∷_, _++_, append-nil}
+use mathlib.Core.Bool.{Bool, true, false, _&&_, not}
+use Prim.Native.Nat.{ℕ, _<_, _+_}
+use native.Mathlib.Omega.{arith}
+use lib.Dec.{eqb}
+use borrow.Author.Tests.{eqb-true, eq-eqb, ne-eqb}
+use Rattle.lines.specs.Logic.{if_then_else_, oneIf}
+use Rattle.lines.specs.Lists.{filter, count, without, onlyIf, prioritised}
+use Rattle.lines.proofs.Laws.Logic.{by-test, by-eq, by-choice, never, and-left, and-right, and-in}
+use Rattle.lines.proofs.Laws.Lists
+use Rattle.scheduler.specs.declared.thread.Thread.{Thread}
+use Rattle.scheduler.specs.declared.thread.Place.{Place}
+use Rattle.scheduler.specs.declared.Scheduler.{Scheduler}
+use Rattle.scheduler.specs.Threads.{placedb}
+use Rattle.scheduler.specs.Sound.{fitb, Steady}
+use Rattle.scheduler.specs.Orders.{priorityAt, lineAt, withThread, joined, prioritisedAt}
+use Rattle.scheduler.proofs.Laws.Threads.{other-place}
+use Rattle.scheduler.proofs.Laws.Orders
+use Rattle.kernel.specs.declared.Kernel.{Kernel}
+use Rattle.kernel.specs.Tables.{threadOf, withScheduler, withHeld, withClock}
+use Rattle.kernel.specs.Kinds.{placeOf}
+use Rattle.kernel.specs.Edits.{Move, Edit, recordBy, frontb, startsb, leavesb, sameb, edited, applied, movers, lineBy, linesBy}
+use Rattle.kernel.specs.Edits.Cause.{served, deleted, timedOut, aborted}
+use Rattle.kernel.specs.Edits.Move.{ends, starts, stops, turns}
+use Rattle.kernel.specs.Edits.Edit.{moves, alters, counts, ranks, stores, sets}
+use Rattle.kernel.specs.Roles.{allb}
+use Rattle.kernel.proofs.Laws.Objects
+use Rattle.kernel.proofs.Laws.Fits
+
+-- ---- places
+pub same-place : (p q : Place) → sameb p q ≡ true → p ≡ q
+same-place p q e =
+    let a = eqb-true (p .state) (q .state) (and-left (eqb (p .state) (q .state)) (eqb (p .number) (q .number)) e) in
+    let b = eqb-true (p .number) (q .number) (and-right (eqb (p .state) (q .state)) (eqb (p .number) (q .number)) e) in
+    λ i. record { state = a i; number = b i }
+
+pub place-same : (p q : Place) → p ≡ q → sameb p q ≡ true
+place-same p q z = and-in (eqb (p .state) (q .state)) (eqb (p .number) (q .number)) (eq-eqb (p .state) (q .state) (ap (λ (x : Place). x .state) z)) (eq-eqb (p .number) (q .number) (ap (λ (x : Place). x .number) z))
+
+-- ---- the law of lines: one edit
+line-joined : (s : Scheduler) → Steady s → (front : Bool) (t : ℕ) (th : Thread) → t < 32 → fitb th ≡ true → (p : Place)
+    → lineAt (joined s front t th) p ≡ (if front then onlyIf (placedb p th) t ++ without t (lineAt s p) else without t (lineAt s p) ++ onlyIf (placedb p th) t)
+unfolding joined
+line-joined s S true t th small f p = Orders.front-line s S t th small f p
+line-joined s S false t th small f p = Orders.moved-line s S t th small f p
+
+line-ranked : (s : Scheduler) → Steady s → (q p : Place) → lineAt (prioritisedAt s q) p ≡ (if sameb p q then prioritised (priorityAt s) (lineAt s p) else lineAt s p)
+line-ranked s S q p =
+    by-choice (λ (l : List ℕ). lineAt (prioritisedAt s q) p ≡ l) (sameb p q) (prioritised (priorityAt s) (lineAt s p)) (lineAt s p)
+    (λ e. rw (same-place p q e) (Orders.prioritised-here s S q))
+    (λ e. Orders.prioritised-other s S q p (λ z. never (place-same p q z) e))
+
+line-altered : (k : Kernel) → Steady (k .scheduler) → (t : ℕ) (th : Thread) → Fits.Altered k t th → (p : Place) → lineAt (withThread (k .scheduler) t th) p ≡ lineAt (k .scheduler) p
+line-altered k S t th A p = Orders.kept-line (k .scheduler) S t th (A .small) p (A .placed p)
+
+pub line-edit : (k : Kernel) → Steady (k .scheduler) → (e : Edit) → Fits.Firm k e → (p : Place) → lineAt (edited k e .scheduler) p ≡ lineBy k e p (lineAt (k .scheduler) p)
+unfolding edited lineBy withHeld withScheduler withClock
+line-edit k S (moves t m) G p = line-joined (k .scheduler) S (frontb m) t (recordBy m (threadOf k t)) (G .small) (G .fit) p
+line-edit k S (alters t f) G p = line-altered k S t (f (threadOf k t)) (G .0) p
+line-edit k S (counts t) G p = line-altered k S t _ (Fits.one-less k S t (G .0) (G .1)) p
+line-edit k S (ranks d n) G p = line-ranked (k .scheduler) S (placeOf d n) p
+line-edit k S (stores d n x) G p = ap (λ (s : Scheduler). lineAt s p) (Objects.stored-scheduler d k n x)
+line-edit k S (sets c) G p = refl
+
+-- and all: what the line of any place is afterwards
+pub line-after : (k : Kernel) → Steady (k .scheduler) → (es : List Edit) → Fits.Firms k es → (p : Place) → lineAt (applied k es .scheduler) p ≡ linesBy k es p (lineAt (k .scheduler) p)
+unfolding applied linesBy
+line-after k S [] G p = refl
+line-after k S (e ∷ es) G p = line-after (edited k e) (Fits.steady-edit k S e (G .0)) es (G .1) p ∙ ap (linesBy (edited k e) es p) (line-edit k S e (G .0) p)
+
+-- ---- a list less all of another
+unfoldable pub less : List ℕ → List ℕ → List ℕ
+less ts l = filter (λ u. eqb (count u ts) 0) l
+
+filter-both : (f g : ℕ → Bool) (xs : List ℕ) → filter f (filter g xs) ≡ filter (λ u. g u && f u) xs
+unfolding filter
+filter-both f g [] = refl
+filter-both f g (x ∷ xs) =
+    by-test (g x)
+    (λ e. rw e (by-test (f x) (λ z. rw z (ap {B = List ℕ} (λ l. x ∷ l) (filter-both f g xs))) (λ z. rw z (filter-both f g xs))))
+    (λ e. rw e (filter-both f g xs))
+
+zero-sum : (a b : ℕ) → (eqb a 0 && eqb b 0) ≡ eqb (a + b) 0
+zero-sum a b =
+    by-eq a 0
+    (λ e. let s : b ≡ a + b = omega (arith, e) in rw (eq-eqb a 0 e) (ap (λ (n : ℕ). eqb n 0) s))
+    (λ e. rw (ne-eqb a 0 e) (sym (ne-eqb (a + b) 0 (λ z. e (omega (arith, z))))))
+
+pub less-less : (rs ts l : List ℕ) → less ts (less rs l) ≡ less (rs ++ ts) l
+unfolding less
+less-less rs ts l =
+    filter-both (λ u. eqb (count u ts) 0) (λ u. eqb (count u rs) 0) l
+    ∙ Lists.filter-same (λ u. eqb (count u rs) 0 && eqb (count u ts) 0) (λ u. eqb (count u (rs ++ ts)) 0) l
+    (λ u. zero-sum (count u rs) (count u ts) ∙ sym (ap (λ (n : ℕ). eqb n 0) (Lists.count-append u rs ts)))
+
+pub less-append : (ts xs ys : List ℕ) → less ts (xs ++ ys) ≡ less ts xs ++ less ts ys
+unfolding less
+less-append ts xs ys = Lists.filter-append (λ u. eqb (count u ts) 0) xs ys
+
+pub less-none : (l : List ℕ) → less [] l ≡ l
+unfolding less count filter
+less-none [] = refl
+less-none (x ∷ xs) = ap {B = List ℕ} (λ l. x ∷ l) (less-none xs)
+
+pub count-none : (u : ℕ) → count u [] ≡ 0
+unfolding count
+count-none u = refl
+
+pub less-one : (t : ℕ) (l : List ℕ) → less (t ∷ []) l ≡ without t l
+unfolding less without
+less-one t l =
+    Lists.filter-same (λ u. eqb (count u (t ∷ [])) 0) (λ x. not (eqb x t)) l
+    (λ u. by-eq u t
+    (λ e. let c = Lists.count-here t [] in rw (e, eq-eqb t t refl) (ne-eqb (count t (t ∷ [])) 0 (λ z. omega (arith, c, z))))
+    (λ e. rw (ne-eqb u t e) (eq-eqb (count u (t ∷ [])) 0 (Lists.count-there u t [] (λ z. e (sym z)) ∙ count-none u))))
+
+-- who is less is gone, and who is not stays
+pub less-gone : (ts l : List ℕ) (u : ℕ) → 0 < count u ts → count u (less ts l) ≡ 0
+unfolding less
+less-gone ts l u c = Lists.count-dropped (λ v. eqb (count v ts) 0) u l (ne-eqb (count u ts) 0 (λ z. omega (arith, c, z)))
+
+pub less-kept : (ts l : List ℕ) (u : ℕ) → count u ts ≡ 0 → count u (less ts l) ≡ count u l
+unfolding less
+less-kept ts l u z = Lists.count-kept (λ v. eqb (count v ts) 0) u l (eq-eqb (count u ts) 0 z)
+
+-- ---- who moves, edit by edit
+pub movers-then : (c : Move → Bool) (e : Edit) (es : List Edit) → movers c (e ∷ es) ≡ movers c (e ∷ []) ++ movers c es
+unfolding movers
+movers-then c (moves t m) es = both (c m)
+  where
+    both : (b : Bool) → (if b then t ∷ movers c es else movers c es) ≡ (if b then t ∷ [] else []) ++ movers c es
+    both true = refl
+    both false = refl
+movers-then c (alters t f) es = refl
+movers-then c (counts t) es = refl
+movers-then c (ranks d n) es = refl
+movers-then c (stores d n x) es = refl
+movers-then c (sets n) es = refl
+
+pub movers-append : (c : Move → Bool) (es fs : List Edit) → movers c (es ++ fs) ≡ movers c es ++ movers c fs
+unfolding movers
+movers-append c [] fs = refl
+movers-append c (moves t m ∷ es) fs = both (c m) (movers-append c es fs)
+  where
+    both : (b : Bool) → movers c (es ++ fs) ≡ movers c es ++ movers c fs
+        → (if b then t ∷ movers c (es ++ fs) else movers c (es ++ fs)) ≡ (if b then t ∷ movers c es else movers c es) ++ movers c fs
+    both true e = ap (λ (l : List ℕ). t ∷ l) e
+    both false e = e
+movers-append c (alters t f ∷ es) fs = movers-append c es fs
+movers-append c (counts t ∷ es) fs = movers-append c es fs
+movers-append c (ranks d n ∷ es) fs = movers-append c es fs
+movers-append c (stores d n x ∷ es) fs = movers-append c es fs
+movers-append c (sets n ∷ es) fs = movers-append c es fs
+
+-- ---- tests of edits
+-- nobody begins to wait
+unfoldable pub unstartedb : Edit → Bool
+unstartedb (moves t m) = not (startsb m)
+unstartedb (alters t f) = true
+unstartedb (counts t) = true
+unstartedb (ranks d n) = true
+unstartedb (stores d n x) = true
+unstartedb (sets c) = true
+
+-- the place is not ranked
+unfoldable pub unrankedb : Place → Edit → Bool
+unrankedb p (moves t m) = true
+unrankedb p (alters t f) = true
+unrankedb p (counts t) = true
+unrankedb p (ranks d n) = not (sameb p (placeOf d n))
+unrankedb p (stores d n x) = true
+unrankedb p (sets c) = true
+
+pub all-first : (f : Edit → Bool) (e : Edit) (es : List Edit) → allb f (e ∷ es) ≡ true → f e ≡ true
+unfolding allb
+all-first f e es a = and-left (f e) (allb f es) a
+
+pub all-rest : (f : Edit → Bool) (e : Edit) (es : List Edit) → allb f (e ∷ es) ≡ true → allb f es ≡ true
+unfolding allb
+all-rest f e es a = and-right (f e) (allb f es) a
+
+pub all-append : (f : Edit → Bool) (es fs : List Edit) → allb f es ≡ true → allb f fs ≡ true → allb f (es ++ fs) ≡ true
+unfolding allb
+all-append f [] fs a b = b
+all-append f (e ∷ es) fs a b = and-in (f e) (allb f (es ++ fs)) (and-left (f e) (allb f es) a) (all-append f es fs (and-right (f e) (allb f es) a) b)
+
+pub not-no : (b : Bool) → not b ≡ true → b ≡ false
+not-no true e = sym e
+not-no false e = refl
+
+-- ---- waiters
+module _ (p : Place) (waiters : 4 < p .state) where
+  -- who moves for no cause of that place does not stand there
+  pub away : (m : Move) (th : Thread) → Fits.Was m th → leavesb p m ≡ false → placedb p th ≡ false
+  unfolding leavesb
+  away (ends (served d i) words) th w n = other-place (placeOf d i) th w p (λ z. never (place-same p (placeOf d i) z) n)
+  away (ends (deleted d i) words) th w n = other-place (placeOf d i) th w p (λ z. never (place-same p (placeOf d i) z) n)
+  away (ends timedOut words) th w n = never refl n
+  away (ends aborted words) th w n = never refl n
+  away (starts front state object ticks h) th w n = by-test (placedb p th) (λ y. never (Fits.placed-paused p waiters th y) w) (λ y. y)
+  away stops th w n = never refl n
+  away (turns f g) th w n = by-test (placedb p th) (λ y. never (Fits.placed-paused p waiters th y) w) (λ y. y)
+
+  -- who begins no wait joins no line of waiters, and not at the front
+  unplaced : (k : Kernel) (t : ℕ) (m : Move) → Fits.Moved k t m → startsb m ≡ false → placedb p (recordBy m (threadOf k t)) ≡ false
+  unplaced k t m G n = by-test (placedb p (recordBy m (threadOf k t))) (λ y. never (Fits.placed-paused p waiters (recordBy m (threadOf k t)) y) (G .is ∙ n)) (λ y. y)
+
+  behind : (m : Move) → startsb m ≡ false → frontb m ≡ false
+  unfolding startsb frontb
+  behind (ends c words) n = refl
+  behind (starts front state object ticks h) n = never refl n
+  behind stops n = refl
+  behind (turns f g) n = refl
+
+  left : (k : Kernel) → Steady (k .scheduler) → (t : ℕ) (m : Move) → Fits.Was m (threadOf k t) → without t (lineAt (k .scheduler) p) ≡ less (if leavesb p m then t ∷ [] else []) (lineAt (k .scheduler) p)
+  unfolding oneIf
+  left k S t m w =
+      by-test (leavesb p m)
+      (λ y. rw y (sym (less-one t (lineAt (k .scheduler) p))))
+      (λ y. rw y (Lists.without-none t (lineAt (k .scheduler) p) (Orders.line-count (k .scheduler) S t p ∙ ap oneIf (away m (threadOf k t) w y)) ∙ sym (less-none (lineAt (k .scheduler) p))))
+
+  -- one edit
+  waiters-edit : (k : Kernel) → Steady (k .scheduler) → (e : Edit) → Fits.Firm k e → unstartedb e ≡ true → unrankedb p e ≡ true
+      → lineAt (edited k e .scheduler) p ≡ less (movers (leavesb p) (e ∷ [])) (lineAt (k .scheduler) p)
+  unfolding lineBy movers unstartedb unrankedb
+  waiters-edit k S (moves t m) G u r =
+      let n = not-no (startsb m) u in
+      line-edit k S (moves t m) G p ∙ rw (behind m n, unplaced k t m G n) (append-nil (without t (lineAt (k .scheduler) p)) ∙ left k S t m (G .was))
+  waiters-edit k S (alters t f) G u r = line-edit k S (alters t f) G p ∙ sym (less-none (lineAt (k .scheduler) p))
+  waiters-edit k S (counts t) G u r = line-edit k S (counts t) G p ∙ sym (less-none (lineAt (k .scheduler) p))
+  waiters-edit k S (ranks d n) G u r = line-edit k S (ranks d n) G p ∙ rw (not-no (sameb p (placeOf d n)) r) (sym (less-none (lineAt (k .scheduler) p)))
+  waiters-edit k S (stores d n x) G u r = line-edit k S (stores d n x) G p ∙ sym (less-none (lineAt (k .scheduler) p))
+  waiters-edit k S (sets c) G u r = line-edit k S (sets c) G p ∙ sym (less-none (lineAt (k .scheduler) p))
+
+  nobody-left : (k : Kernel) → lineAt (k .scheduler) p ≡ less (movers (leavesb p) []) (lineAt (k .scheduler) p)
+  unfolding movers
+  nobody-left k = sym (less-none (lineAt (k .scheduler) p))
+
+  -- a line of waiters after edits that begin no wait and do not rank it: those who left it for a cause of that place are gone
+  pub waiters-after : (k : Kernel) → Steady (k .scheduler) → (es : List Edit) → Fits.Firms k es → allb unstartedb es ≡ true → allb (unrankedb p) es ≡ true
+      → lineAt (applied k es .scheduler) p ≡ less (movers (leavesb p) es) (lineAt (k .scheduler) p)
+  unfolding applied
+  waiters-after k S [] G u r = nobody-left k
+  waiters-after k S (e ∷ es) G u r =
+      waiters-after (edited k e) (Fits.steady-edit k S e (G .0)) es (G .1) (all-rest unstartedb e es u) (all-rest (unrankedb p) e es r)
+      ∙ ap (less (movers (leavesb p) es)) (waiters-edit k S e (G .0) (all-first unstartedb e es u) (all-first (unrankedb p) e es r))
+      ∙ less-less (movers (leavesb p) (e ∷ [])) (movers (leavesb p) es) (lineAt (k .scheduler) p)
+      ∙ ap (λ (ts : List ℕ). less ts (lineAt (k .scheduler) p)) (sym (movers-then (leavesb p) e es))

@@ -1,0 +1,118 @@
+-- Every call, by its number: what it does.
+use mathlib.Core.Path.{_≡_, refl, sym, ap, _∙_, subst}
+use mathlib.Core.List.{List}
+use mathlib.Core.Bool.{Bool, true, false, _&&_, not}
+use Prim.Native.Nat.{ℕ, _<_, min}
+use lib.Dec.{eqb, ltb}
+use borrow.Author.Tests.{eqb-true, ltb-true, not-false}
+use Rattle.lines.specs.Logic.{if_then_else_}
+use Rattle.lines.proofs.Laws.Logic.{by-choice}
+use Rattle.calls.specs.Calls.{decoded, knownCall}
+use Rattle.calls.specs.Statuses as Statuses
+use Rattle.calls.specs.declared.call.Decoded.{Decoded}
+use Rattle.calls.specs.declared.call.Decoded.the-variants.{Known, Unknown}
+use Rattle.kernel.specs.declared.Kernel.{Kernel}
+use Rattle.kernel.specs.Tables.{runnerOf}
+use Rattle.kernel.specs.Answers.{Outcome, refused}
+use Rattle.kernel.specs.General.{service, byCaller, byRecord, step}
+use Rattle.kernel.specs.Claims.{doneb, Unchanged}
+use Rattle.kernel.specs.Sound.{Sound}
+use Rattle.kernel.specs.Roles.{kindOf, limitOf}
+use Rattle.kernel.proofs.Laws.Does
+use Rattle.kernel.proofs.Laws.Calls.Threads
+use Rattle.kernel.proofs.Laws.Calls.Clock
+use Rattle.kernel.proofs.Laws.Calls.Semaphores
+use Rattle.kernel.proofs.Laws.Calls.Queues
+use Rattle.kernel.proofs.Laws.Calls.Groups
+use Rattle.kernel.proofs.Laws.Calls.Pools
+
+module _ (k : Kernel) (caller a b c d : ℕ) (messages : List ℕ) where
+  -- a known call of number n does what its theorem says
+  abbrev By : ℕ → Decoded → Type 0
+  By n (Known call) = Does.Does k caller n (min a (limitOf n)) b c messages (service k caller call messages)
+  By n Unknown = Unit {0}
+
+  -- the call of number m, or another
+  or-else : (n m : ℕ) (x y : Decoded) → By m x → By n y → By n (if eqb n m then x else y)
+  or-else n m x y D E = by-choice (By n) (eqb n m) x y (λ e. subst (λ (i : ℕ). By i x) (sym (eqb-true n m e)) D) (λ e. E)
+
+  -- the calls one by one: the only place in these laws that goes through all of them
+  known-does : (n : ℕ) → By n (knownCall n a b c d)
+  unfolding knownCall service limitOf kindOf
+  known-does n =
+      or-else n 1 _ _ (Threads.create-does k b c messages caller (min a 32) b c d) (
+      or-else n 2 _ _ (Threads.delete-does k b c messages caller (min a 32)) (
+      or-else n 3 _ _ (Threads.resume-does k b c messages caller (min a 32)) (
+      or-else n 4 _ _ (Threads.suspend-does k b c messages caller (min a 32)) (
+      or-else n 5 _ _ (Threads.terminate-does k b c messages caller (min a 32)) (
+      or-else n 6 _ _ (Threads.reset-does k b c messages caller (min a 32)) (
+      or-else n 7 _ _ (Threads.finish-does k b c messages caller (min a 32)) (
+      or-else n 8 _ _ (Threads.relinquish-does k b c messages caller (min a 32)) (
+      or-else n 9 _ _ (Threads.sleep-does k b c messages caller (min a 32) a) (
+      or-else n 10 _ _ (Threads.abort-does k b c messages caller (min a 32)) (
+      or-else n 11 _ _ (Threads.priority-does k b c messages caller (min a 32) b) (
+      or-else n 12 _ _ (Threads.preemption-does k b c messages caller (min a 32) b) (
+      or-else n 13 _ _ (Clock.get-does k b c messages caller (min a 32)) (
+      or-else n 14 _ _ (Clock.set-does k b c messages caller (min a 32) a) (
+      or-else n 15 _ _ (Clock.tick-does k b c messages caller (min a 32)) (
+      or-else n 16 _ _ (Semaphores.create-does k b c messages caller (min a 16)) (
+      or-else n 17 _ _ (Semaphores.delete-does k b c messages caller (min a 16)) (
+      or-else n 18 _ _ (Semaphores.get-does k b c messages caller (min a 16) b) (
+      or-else n 19 _ _ (Semaphores.put-does k b c messages caller (min a 16)) (
+      or-else n 20 _ _ (Semaphores.ceiling-does k b c messages caller (min a 16) b) (
+      or-else n 21 _ _ (Semaphores.prioritize-does k b c messages caller (min a 16)) (
+      or-else n 22 _ _ (Queues.create-does k b c messages caller (min a 8)) (
+      or-else n 23 _ _ (Queues.delete-does k b c messages caller (min a 8)) (
+      or-else n 24 _ _ (Queues.send-does k b c messages caller (min a 8) b) (
+      or-else n 25 _ _ (Queues.front-does k b c messages caller (min a 8) b) (
+      or-else n 26 _ _ (Queues.receive-does k b c messages caller (min a 8) b) (
+      or-else n 27 _ _ (Queues.flush-does k b c messages caller (min a 8)) (
+      or-else n 28 _ _ (Queues.prioritize-does k b c messages caller (min a 8)) (
+      or-else n 29 _ _ (Groups.create-does k b c messages caller (min a 8)) (
+      or-else n 30 _ _ (Groups.delete-does k b c messages caller (min a 8)) (
+      or-else n 31 _ _ (Groups.set-does k b c messages caller (min a 8) b c) (
+      or-else n 32 _ _ (Groups.get-does k b c messages caller (min a 8) b c d) (
+      or-else n 33 _ _ (Pools.create-does k b c messages caller (min a 4)) (
+      or-else n 34 _ _ (Pools.delete-does k b c messages caller (min a 4)) (
+      or-else n 35 _ _ (Pools.allocate-does k b c messages caller (min a 4) b) (
+      or-else n 36 _ _ (Pools.release-does k b c messages caller (min a 4)) (
+      or-else n 37 _ _ (Pools.prioritize-does k b c messages caller (min a 4)) (
+      or-else n 38 _ _ (Threads.state-does k b c messages caller (min a 32)) (
+      or-else n 39 _ _ (Threads.words-does k b c messages caller (min a 32)) (
+      tt)))))))))))))))))))))))))))))))))))))))
+
+  decoded-does : (n : ℕ) → By n (decoded n caller a b c d)
+  unfolding decoded
+  decoded-does n = by-choice (By n) (ltb 2 caller) Unknown (knownCall n a b c d) (λ e. tt) (λ e. known-does n)
+
+-- who is not refused for want of a runner has one, where a thread calls
+runner-there : (k : Kernel) (caller : ℕ) → (eqb caller 2 && not (ltb (runnerOf k) 32)) ≡ false → eqb caller 2 ≡ true → runnerOf k < 32
+runner-there k caller e c = ltb-true (runnerOf k) 32 (not-false (ltb (runnerOf k) 32) (sym (ap (λ (b : Bool). b && not (ltb (runnerOf k) 32)) c) ∙ e))
+
+-- ---- any call
+module _ (k : Kernel) (n caller a b c d : ℕ) (messages : List ℕ) where
+  record-does : Sound k → (x : Decoded) → By k caller a b c d messages n x → Does.Step k n (min a (limitOf n)) b c messages (byRecord k caller x messages)
+  unfolding byRecord byCaller
+  record-does S (Known call) D =
+      by-choice (Does.Step k n (min a (limitOf n)) b c messages) (eqb caller 2 && not (ltb (runnerOf k) 32)) (refused k Statuses.nobodyRuns) (service k caller call messages)
+      (λ e. Does.refuses Statuses.nobodyRuns refl refl)
+      (λ e. Does.step-of k S caller n (min a (limitOf n)) b c messages (service k caller call messages) (runner-there k caller e) D)
+  record-does S Unknown D = Does.refuses Statuses.unknownCall refl refl
+
+  -- on sound tables a call is refused, or carries out a proper effect
+  pub step-does : Sound k → Does.Step k n (min a (limitOf n)) b c messages (step k n caller a b c d messages)
+  unfolding step
+  step-does S = record-does S (decoded n caller a b c d) (decoded-does k caller a b c d messages n)
+
+  record-refused : (x : Decoded) → By k caller a b c d messages n x → doneb (byRecord k caller x messages .status) ≡ false → Unchanged k (byRecord k caller x messages)
+  unfolding byRecord byCaller refused
+  record-refused (Known call) D =
+      by-choice (λ (o : Outcome). doneb (o .status) ≡ false → Unchanged k o) (eqb caller 2 && not (ltb (runnerOf k) 32)) (refused k Statuses.nobodyRuns) (service k caller call messages)
+      (λ e u. record { kernel = refl; words = refl; ended = refl })
+      (λ e u. Does.does-refused k caller n (min a (limitOf n)) b c messages (service k caller call messages) D u)
+  record-refused Unknown D = λ u. record { kernel = refl; words = refl; ended = refl }
+
+  -- on any tables a refused call changes nothing
+  pub step-refused : doneb (step k n caller a b c d messages .status) ≡ false → Unchanged k (step k n caller a b c d messages)
+  unfolding step
+  step-refused u = record-refused (decoded n caller a b c d) (decoded-does k caller a b c d messages n) u

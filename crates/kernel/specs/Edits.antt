@@ -1,0 +1,188 @@
+-- What a call does to the tables, as a list of edits, each with its cause.
+use mathlib.Core.List.{List, [], _∷_, _++_}
+use mathlib.Core.Bool.{Bool, true, false, _&&_, not}
+use Prim.Native.Nat.{ℕ, _-_}
+use lib.Dec.{eqb}
+use Rattle.lines.specs.Logic.{if_then_else_}
+use Rattle.lines.specs.Lists.{without, onlyIf, prioritised}
+use Rattle.scheduler.specs.declared.thread.Thread.{Thread}
+use Rattle.scheduler.specs.declared.thread.Place.{Place}
+use Rattle.scheduler.specs.Threads.{terminated, placedb, awake, inState, atRest}
+use Rattle.scheduler.specs.Orders.{priorityAt, joined, withThread, prioritisedAt}
+use Rattle.scheduler.specs.Choice.{rescheduled}
+use Rattle.calls.specs.declared.held.Held.{Held}
+use Rattle.calls.specs.Held.{noHeld, holding}
+use Rattle.calls.specs.Statuses as Statuses
+use Rattle.waiting.specs.Ticks.{timeoutStatus, withTicks}
+use Rattle.kernel.specs.declared.Kernel.{Kernel}
+use Rattle.kernel.specs.Tables.{threadOf, heldAt, withScheduler, withHeld, withClock}
+use Rattle.kernel.specs.Answers.{Outcome}
+use Rattle.kernel.specs.Kinds.{Kind, Object, placeOf, withObject}
+
+-- ---- why a wait ends: it is served by its object, its object is deleted, its last tick has passed, it is aborted
+pub data Cause : Type 0 where
+  served : Kind → ℕ → Cause
+  deleted : Kind → ℕ → Cause
+  timedOut : Cause
+  aborted : Cause
+
+-- the status that it then holds
+unfoldable pub statusBy : Cause → Thread → Held → ℕ
+statusBy (served d n) th h = Statuses.success
+statusBy (deleted d n) th h = Statuses.deleted
+statusBy timedOut th h = timeoutStatus th h
+statusBy aborted th h = Statuses.waitAborted
+
+-- ---- how a thread changes that leaves its order and joins another, or none
+pub data Move : Type 0 where
+  -- its wait ends, and it holds the cause's status and words
+  ends : Cause → List ℕ → Move
+  -- it begins to wait or sleep, at the end of its line or at the front: state, object, ticks, and what it holds
+  starts : Bool → ℕ → ℕ → ℕ → Held → Move
+  -- it is terminated: a wait, if any, ends with no status
+  stops : Move
+  -- it does not wait, before or after: another record and something else held
+  turns : (Thread → Thread) → (Held → Held) → Move
+
+-- its record, and what it holds
+unfoldable pub recordBy : Move → Thread → Thread
+recordBy (ends c words) th = awake th
+recordBy (starts front state object ticks h) th = inState state object ticks th
+recordBy stops th = atRest terminated th
+recordBy (turns f g) th = f th
+
+unfoldable pub heldBy : Move → Thread → Held → Held
+heldBy (ends c words) th h = holding (statusBy c th h) words
+heldBy (starts front state object ticks new) th h = new
+heldBy stops th h = noHeld
+heldBy (turns f g) th h = g h
+
+-- it joins at the front
+unfoldable pub frontb : Move → Bool
+frontb (ends c words) = false
+frontb (starts front state object ticks h) = front
+frontb stops = false
+frontb (turns f g) = false
+
+-- ---- edits
+pub data Edit : Type 0 where
+  -- thread t leaves its order and joins the one that its new record puts it in
+  moves : ℕ → Move → Edit
+  -- thread t gets another record and stays where it stands
+  alters : ℕ → (Thread → Thread) → Edit
+  -- the timed wait of thread t has one tick less
+  counts : ℕ → Edit
+  -- the first of the best priority goes to the front of an object's line
+  ranks : Kind → ℕ → Edit
+  -- an object gets another record
+  stores : (d : Kind) → ℕ → Object d → Edit
+  -- another clock
+  sets : ℕ → Edit
+
+unfoldable pub edited : Kernel → Edit → Kernel
+edited k (moves t m) = withHeld (withScheduler k (joined (k .scheduler) (frontb m) t (recordBy m (threadOf k t)))) t (heldBy m (threadOf k t) (heldAt k t))
+edited k (alters t f) = withScheduler k (withThread (k .scheduler) t (f (threadOf k t)))
+edited k (counts t) = withScheduler k (withThread (k .scheduler) t (withTicks (threadOf k t .ticks - 1) (threadOf k t)))
+edited k (ranks d n) = withScheduler k (prioritisedAt (k .scheduler) (placeOf d n))
+edited k (stores d n x) = withObject d k n x
+edited k (sets c) = withClock k c
+
+unfoldable pub applied : Kernel → List Edit → Kernel
+applied k [] = k
+applied k (e ∷ es) = applied (edited k e) es
+
+-- ---- who moves in some way, in order
+unfoldable pub movers : (Move → Bool) → List Edit → List ℕ
+movers c [] = []
+movers c (moves t m ∷ es) = if c m then t ∷ movers c es else movers c es
+movers c (alters t f ∷ es) = movers c es
+movers c (counts t ∷ es) = movers c es
+movers c (ranks d n ∷ es) = movers c es
+movers c (stores d n x ∷ es) = movers c es
+movers c (sets n ∷ es) = movers c es
+
+-- whoever moves
+abbrev pub anyb : Move → Bool
+anyb m = true
+
+-- whose timed waits have one tick less
+unfoldable pub counted : List Edit → List ℕ
+counted [] = []
+counted (moves t m ∷ es) = counted es
+counted (alters t f ∷ es) = counted es
+counted (counts t ∷ es) = t ∷ counted es
+counted (ranks d n ∷ es) = counted es
+counted (stores d n x ∷ es) = counted es
+counted (sets n ∷ es) = counted es
+
+-- a wait ends with a status; a wait begins
+unfoldable pub endsb : Move → Bool
+endsb (ends c words) = true
+endsb (starts front state object ticks h) = false
+endsb stops = false
+endsb (turns f g) = false
+
+unfoldable pub startsb : Move → Bool
+startsb (ends c words) = false
+startsb (starts front state object ticks h) = true
+startsb stops = false
+startsb (turns f g) = false
+
+-- two places are the same
+abbrev pub sameb : Place → Place → Bool
+sameb p q = eqb (p .state) (q .state) && eqb (p .number) (q .number)
+
+-- it takes a waiter out of the line of p
+unfoldable pub leavesb : Place → Move → Bool
+leavesb p (ends (served d n) words) = sameb p (placeOf d n)
+leavesb p (ends (deleted d n) words) = sameb p (placeOf d n)
+leavesb p (ends timedOut words) = true
+leavesb p (ends aborted words) = true
+leavesb p (starts front state object ticks h) = false
+leavesb p stops = true
+leavesb p (turns f g) = false
+
+-- ---- the line of a place after an edit, and after all
+unfoldable pub lineBy : Kernel → Edit → Place → List ℕ → List ℕ
+lineBy k (moves t m) p l =
+    if frontb m
+    then onlyIf (placedb p (recordBy m (threadOf k t))) t ++ without t l
+    else without t l ++ onlyIf (placedb p (recordBy m (threadOf k t))) t
+lineBy k (alters t f) p l = l
+lineBy k (counts t) p l = l
+lineBy k (ranks d n) p l = if sameb p (placeOf d n) then prioritised (priorityAt (k .scheduler)) l else l
+lineBy k (stores d n x) p l = l
+lineBy k (sets c) p l = l
+
+unfoldable pub linesBy : Kernel → List Edit → Place → List ℕ → List ℕ
+linesBy k [] p l = l
+linesBy k (e ∷ es) p l = linesBy (edited k e) es p (lineBy k e p l)
+
+-- ---- a call that is carried out
+-- with 0x00, with 0x19 or with 0x101
+pub data Success : Type 0 where
+  done : Success
+  lifted : Success
+  waits : Success
+
+unfoldable pub statusOf : Success → ℕ
+statusOf done = Statuses.success
+statusOf lifted = Statuses.suspendLifted
+statusOf waits = Statuses.waiting
+
+-- how it succeeds, its words, whether the runner relinquishes, and its edits
+pub record Effect : Type 0 where
+  pub success : Success
+  pub words : List ℕ
+  pub relinquishes : Bool
+  pub edits : List Edit
+
+-- the edits, the choice of the next thread, and the threads whose waits end
+unfoldable pub carriedOut : Kernel → Effect → Outcome
+carriedOut k e =
+    record {
+      status = statusOf (e .success);
+      words = e .words;
+      ended = movers endsb (e .edits);
+      kernel = withScheduler (applied k (e .edits)) (rescheduled (applied k (e .edits) .scheduler) (e .relinquishes));
+    }

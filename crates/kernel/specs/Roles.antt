@@ -1,0 +1,66 @@
+-- The calls of each kind of object, by number, and what a call of a number may do.
+use mathlib.Core.List.{List, [], _∷_}
+use mathlib.Core.Bool.{Bool, true, false, _&&_, _||_}
+use Prim.Native.Nat.{ℕ}
+use lib.Dec.{eqb, ltb}
+use Rattle.lines.specs.Logic.{if_then_else_, implies}
+use Rattle.scheduler.specs.Threads.{onQueue}
+use Rattle.kernel.specs.Kinds.{Kind, sizeOf}
+use Rattle.kernel.specs.Kinds.Kind.{semaphore, queue, group, pool}
+use Rattle.kernel.specs.Edits.{Move, Edit}
+use Rattle.kernel.specs.Edits.Cause.{served, deleted, timedOut, aborted}
+use Rattle.kernel.specs.Edits.Move.{ends, starts, stops, turns}
+use Rattle.kernel.specs.Edits.Edit.{moves, alters, counts, ranks, stores, sets}
+
+-- the calls that create an object, delete it, take from it, give to it, prioritise its line, empty it
+pub record Row : Type 0 where
+  pub creates : List ℕ
+  pub deletes : List ℕ
+  pub takes : List ℕ
+  pub gives : List ℕ
+  pub prioritises : List ℕ
+  pub empties : List ℕ
+
+abbrev pub rowOf : Kind → Row
+rowOf semaphore = record { creates = 16 ∷ []; deletes = 17 ∷ []; takes = 18 ∷ []; gives = 19 ∷ 20 ∷ []; prioritises = 21 ∷ []; empties = [] }
+rowOf queue = record { creates = 22 ∷ []; deletes = 23 ∷ []; takes = 26 ∷ []; gives = 24 ∷ 25 ∷ []; prioritises = 28 ∷ []; empties = 27 ∷ [] }
+rowOf group = record { creates = 29 ∷ []; deletes = 30 ∷ []; takes = 32 ∷ []; gives = 31 ∷ []; prioritises = []; empties = [] }
+rowOf pool = record { creates = 33 ∷ []; deletes = 34 ∷ []; takes = 35 ∷ []; gives = 36 ∷ []; prioritises = 37 ∷ []; empties = [] }
+
+-- a number is one of a list
+unfoldable pub oneOf : ℕ → List ℕ → Bool
+oneOf n [] = false
+oneOf n (m ∷ ms) = eqb n m || oneOf n ms
+
+-- the kind of object that a call's first argument names, and how many such objects, or else threads, there are
+unfoldable pub kindOf : ℕ → Kind
+kindOf n = if ltb n 22 then semaphore else if ltb n 29 then queue else if ltb n 33 then group else pool
+
+unfoldable pub limitOf : ℕ → ℕ
+limitOf n = if ltb n 16 then 32 else if ltb n 38 then sizeOf (kindOf n) else 32
+
+-- ---- what the call of number n whose first argument is a may do
+unfoldable pub mayMoveb : ℕ → ℕ → ℕ → Move → Bool
+-- a wait ends as served only by a call that gives to the object, takes from it (a sender's) or empties it
+mayMoveb n a t (ends (served d i) words) = eqb i a && (oneOf n (rowOf d .gives) || oneOf n (rowOf d .takes) || oneOf n (rowOf d .empties))
+mayMoveb n a t (ends (deleted d i) words) = eqb i a && oneOf n (rowOf d .deletes)
+mayMoveb n a t (ends timedOut words) = eqb n 15
+mayMoveb n a t (ends aborted words) = eqb n 10 && eqb t a
+-- only a front sender joins a line at the front
+mayMoveb n a t (starts front state object ticks h) = implies front (eqb n 25 && eqb state onQueue && eqb object a)
+mayMoveb n a t stops = eqb n 5 && eqb t a
+mayMoveb n a t (turns f g) = true
+
+unfoldable pub mayb : ℕ → ℕ → Edit → Bool
+mayb n a (moves t m) = mayMoveb n a t m
+mayb n a (alters t f) = true
+mayb n a (counts t) = eqb n 15
+mayb n a (ranks d i) = eqb i a && oneOf n (rowOf d .prioritises)
+mayb n a (stores d i x) =
+    eqb i a && (oneOf n (rowOf d .creates) || oneOf n (rowOf d .deletes) || oneOf n (rowOf d .takes) || oneOf n (rowOf d .gives) || oneOf n (rowOf d .empties))
+mayb n a (sets c) = eqb n 14 || eqb n 15
+
+-- a test of every edit
+unfoldable pub allb : (Edit → Bool) → List Edit → Bool
+allb f [] = true
+allb f (e ∷ es) = f e && allb f es
