@@ -3,7 +3,6 @@ pub mod Waits
 pub mod Groups
 pub mod Sound
 pub mod Objects
-pub mod Held
 pub mod Fits
 pub mod Lines
 pub mod Fates

@@ -1,5 +1,6 @@
 pub mod Logic
 pub mod Lists
+pub mod Less
 pub mod Bests
 pub mod Lines
 pub mod Tallies

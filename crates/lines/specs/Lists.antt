@@ -47,6 +47,10 @@ unfoldable pub count : ℕ → List ℕ → ℕ
 count t [] = 0
 count t (x ∷ xs) = oneIf (eqb x t) + count t xs
 
+-- a list less all of another
+unfoldable pub less : List ℕ → List ℕ → List ℕ
+less ts l = filter (λ u. eqb (count u ts) 0) l
+
 -- every number of the list is below n
 unfoldable pub below : ℕ → List ℕ → Bool
 below n [] = true

@@ -6,9 +6,10 @@ use Prim.Native.Nat.{ℕ, zero, suc, _<_, _≤_, _+_, _-_}
 use native.Mathlib.Omega.{arith}
 use lib.Dec.{eqb, ltb}
 use Rattle.lines.specs.Logic.{oneIf}
-use Rattle.lines.specs.Lists.{filter, without, onlyIf, count, Begins}
+use Rattle.lines.specs.Lists.{filter, without, onlyIf, count, Begins, less}
 use Rattle.lines.proofs.Laws.Logic.{by-test, by-eq}
 use Rattle.lines.proofs.Laws.Lists
+use Rattle.lines.proofs.Laws.Less
 use Rattle.scheduler.specs.declared.thread.Thread.{Thread}
 use Rattle.scheduler.specs.declared.thread.Place.{Place}
 use Rattle.scheduler.specs.Threads.{pausedb}
@@ -33,7 +34,7 @@ pub record Rolls (p : Place) (k : Kernel) (r : List Entry) : Type 0 where
 
 -- from tables k to tables x those in ts leave the line, and who stays keeps what it holds, with one tick less where it is in cs
 pub record Leaves (p : Place) (k x : Kernel) (ts cs : List ℕ) : Type 0 where
-  pub line : Begins (Lines.less ts (lineAt (k .scheduler) p)) (lineAt (x .scheduler) p)
+  pub line : Begins (less ts (lineAt (k .scheduler) p)) (lineAt (x .scheduler) p)
   pub gone : (u : ℕ) → 0 < count u ts → count u (lineAt (x .scheduler) p) ≡ 0
   pub kept : (u : ℕ) → 0 < count u (lineAt (k .scheduler) p) → count u ts ≡ 0 → Fates.Kept k x u (count u cs)
 
@@ -78,14 +79,14 @@ roll-unnamed k t (u ∷ us) =
 -- ---- the roll after those in ts have left
 module _ (p : Place) (k x : Kernel) (ts cs : List ℕ) (A : Leaves p k x ts cs) (r : List Entry) (R : Rolls p k r) (s : List Entry) where
   abbrev ys : List ℕ
-  ys = Lines.less ts (names r)
+  ys = less ts (names r)
 
   -- a member that is left was one, and has not left
   stays : (u : ℕ) → 0 < count u ys → Fates.Kept k x u (count u cs)
   stays u c =
       by-eq (count u ts) 0
-      (λ z. A .kept u (member p k r R u (let y = Lines.less-kept ts (names r) u z in omega (arith, c, y))) z)
-      (λ z. absurd (let y = Lines.less-gone ts (names r) u (omega (arith, z)) in omega (arith, c, y)))
+      (λ z. A .kept u (member p k r R u (let y = Less.less-kept ts (names r) u z in omega (arith, c, y))) z)
+      (λ z. absurd (let y = Less.less-gone ts (names r) u (omega (arith, z)) in omega (arith, c, y)))
 
   pub passes : s ≡ rollOf x ys → Passes p k x r s
   passes q =
@@ -95,25 +96,25 @@ module _ (p : Place) (k x : Kernel) (ts cs : List ℕ) (A : Leaves p k x ts cs) 
       record {
         rolls = record {
           begins = (
-            Lines.less ts w ++ v,
-            A .line .1 ∙ ap (λ (l : List ℕ). Lines.less ts l ++ v) (R .begins .1) ∙ ap (λ (l : List ℕ). l ++ v) (Lines.less-append ts (names r) w)
-                ∙ append-assoc ys (Lines.less ts w) v ∙ ap (λ (l : List ℕ). l ++ (Lines.less ts w ++ v)) (sym n),
+            less ts w ++ v,
+            A .line .1 ∙ ap (λ (l : List ℕ). less ts l ++ v) (R .begins .1) ∙ ap (λ (l : List ℕ). l ++ v) (Less.less-append ts (names r) w)
+                ∙ append-assoc ys (less ts w) v ∙ ap (λ (l : List ℕ). l ++ (less ts w ++ v)) (sym n),
           );
           agrees = q ∙ ap (rollOf x) (sym n);
         };
         gone = λ u c z. by-eq (count u ts) 0
-            (λ i. absurd (let y = Lines.less-kept ts (names r) u i in let same = ap (count u) n in omega (arith, c, z, y, same)))
+            (λ i. absurd (let y = Less.less-kept ts (names r) u i in let same = ap (count u) n in omega (arith, c, z, y, same)))
             (λ i. A .gone u (omega (arith, i)));
         held = λ u c. stays u (let same = ap (count u) n in omega (arith, c, same)) .held;
       }
 
   -- where no ticks are counted
   pub passes-untimed : cs ≡ [] → s ≡ rollOf k ys → Passes p k x r s
-  passes-untimed z q = passes (q ∙ roll-same k x ys (λ u c. let t = stays u c .ticks in let i = ap (count u) z in let y = Lines.count-none u in omega (arith, t, i, y)))
+  passes-untimed z q = passes (q ∙ roll-same k x ys (λ u c. let t = stays u c .ticks in let i = ap (count u) z in let y = Less.count-none u in omega (arith, t, i, y)))
 
 -- nobody leaves, or the first, or the thread named
 pub passes-same : (p : Place) (k x : Kernel) (r : List Entry) → Leaves p k x [] [] → Rolls p k r → Passes p k x r r
-passes-same p k x r A R = passes-untimed p k x [] [] A r R r refl (R .agrees ∙ ap (rollOf k) (sym (Lines.less-none (names r))))
+passes-same p k x r A R = passes-untimed p k x [] [] A r R r refl (R .agrees ∙ ap (rollOf k) (sym (Less.less-none (names r))))
 
 pub passes-first : (p : Place) (k x : Kernel) → Steady (k .scheduler) → (r : List Entry) (t : ℕ) → 0 < count t (names r) → Leaves p k x (firstAt (k .scheduler) p ∷ []) [] → Rolls p k r → Passes p k x r (rest r)
 unfolding names count rest rollOf firstAt
@@ -123,9 +124,9 @@ passes-first p k x S (e ∷ es) t c A R =
     let l = lineAt (k .scheduler) p in
     let one : count u (u ∷ names es) ≡ 1 = let y = Lists.count-here u (names es) in let w = Lists.begins-count (u ∷ names es) l (R .begins) u in let v = Orders.line-once (k .scheduler) S u p in omega (arith, y, w, v) in
     passes-untimed p k x (u ∷ []) [] (rw (Lists.begins-first u (names es) l (R .begins)) at A) (e ∷ es) R es refl
-    (ap rest (R .agrees) ∙ ap (rollOf k) (sym (Lines.less-one u (u ∷ names es) ∙ Lists.without-first u (names es) one)))
+    (ap rest (R .agrees) ∙ ap (rollOf k) (sym (Less.less-one u (u ∷ names es) ∙ Lists.without-first u (names es) one)))
 
-pub passes-named : (p : Place) (k x : Kernel) (ts : List ℕ) (t : ℕ) (r : List Entry) → Leaves p k x ts [] → Rolls p k r → without t (names r) ≡ Lines.less ts (names r) → Passes p k x r (each (unnamed t) r)
+pub passes-named : (p : Place) (k x : Kernel) (ts : List ℕ) (t : ℕ) (r : List Entry) → Leaves p k x ts [] → Rolls p k r → without t (names r) ≡ less ts (names r) → Passes p k x r (each (unnamed t) r)
 passes-named p k x ts t r A R same = passes-untimed p k x ts [] A r R _ refl (ap (each (unnamed t)) (R .agrees) ∙ roll-unnamed k t (names r) ∙ ap (rollOf k) same)
 
 -- ---- a tick
@@ -137,7 +138,7 @@ module _ (k : Kernel) (f : List Edit → List ℕ) (b : Thread → Bool) (none :
 
   ticks-past : (n u : ℕ) → n ≤ u → count u (f (ticksBelow n k)) ≡ 0
   unfolding ticksBelow
-  ticks-past zero u l = ap (count u) none ∙ Lines.count-none u
+  ticks-past zero u l = ap (count u) none ∙ Less.count-none u
   ticks-past (suc n) u l = let c = ticks-past n u (omega (arith, l)) in let d = Lists.count-not-only n u (b (threadOf k n)) (λ q. omega (arith, l, q)) in omega (arith, one-more n u, c, d)
 
   ticks-below : (n u : ℕ) → u < n → count u (f (ticksBelow n k)) ≡ oneIf (b (threadOf k u))
@@ -182,8 +183,8 @@ module _ (p : Place) (k x : Kernel) where
   abbrev Ticks : ℕ → Type 0
   Ticks u = (u < 32) × (pausedb (threadOf k u) ≡ true) × (count u ts ≡ 0 → threadOf x u .ticks ≡ threadOf k u .ticks - count u cs)
 
-  roll-ticked : (xs : List ℕ) → ((u : ℕ) → 0 < count u xs → Ticks u) → each ticked (rollOf k xs) ≡ rollOf x (Lines.less ts xs)
-  unfolding each ticked rollOf Lines.less filter movers leavesb counted lastTickb timedb oneIf
+  roll-ticked : (xs : List ℕ) → ((u : ℕ) → 0 < count u xs → Ticks u) → each ticked (rollOf k xs) ≡ rollOf x (less ts xs)
+  unfolding each ticked rollOf less filter movers leavesb counted lastTickb timedb oneIf
   roll-ticked [] h = refl
   roll-ticked (u ∷ us) h =
       let (small, paused, left) = h u (omega (arith, Lists.count-here u us)) in

@@ -9,9 +9,10 @@ use lib.ListN.{getD, set}
 use lib.Seq.{getD-set-same}
 use borrow.Author.Tests.{eqb-true, ltb-true}
 use Rattle.lines.specs.Logic.{if_then_else_, implies}
-use Rattle.lines.specs.Lists.{count, without, Begins}
+use Rattle.lines.specs.Lists.{count, without, Begins, less}
 use Rattle.lines.proofs.Laws.Logic.{by-test, by-eq, by-choice, never, and-left, and-right, and-in, or-rest, implies-out}
 use Rattle.lines.proofs.Laws.Lists
+use Rattle.lines.proofs.Laws.Less
 use Rattle.scheduler.specs.declared.thread.Thread.{Thread}
 use Rattle.scheduler.specs.declared.thread.Place.{Place}
 use Rattle.scheduler.specs.Threads.{onQueue, placedb, inState}
@@ -127,19 +128,19 @@ module _ (d : Kind) (o : rolledb d ≡ true) (n t : ℕ) (k : Kernel) (r : List 
           Members.passes-first p k x (F .steady) r t (L .stands)
           (subst (λ (b : Bool). Members.Leaves p k x (if b then f ∷ [] else []) []) (Lines.place-same p p refl) (left-by _ (ap (λ (y : Effect). y .edits) (first-served g)))) (L .rolls)
 
-      named-by : (ts : List ℕ) → Members.Leaves p k x ts [] → limitOf (m .number) ≡ 32 → without (target m) (names r) ≡ Lines.less ts (names r) → Members.Passes p k x r (each (unnamed (m .a)) r)
+      named-by : (ts : List ℕ) → Members.Leaves p k x ts [] → limitOf (m .number) ≡ 32 → without (target m) (names r) ≡ less ts (names r) → Members.Passes p k x r (each (unnamed (m .a)) r)
       named-by ts A l s = Members.passes-named p k x ts (m .a) r A (L .rolls) (same-target l ∙ s)
 
       named-passes : (eqb (m .number) 5 || eqb (m .number) 10) ≡ true → Members.Passes p k x r (each (unnamed (m .a)) r)
       unfolding movers counted leavesb limitOf terminateEffect abortEffect
       named-passes g =
           let a = target m in
-          let one = sym (Lines.less-one a (names r)) in
+          let one = sym (Less.less-one a (names r)) in
           by-test (eqb (m .number) 5)
           (λ y. let i = eqb-true (m .number) 5 y in
           let q = ap (λ (f : Effect). f .edits) (R .terminates i) in
           by-test (finishedb (threadOf k a))
-          (λ f. named-by [] (left-by [] (q ∙ rw f)) (ap limitOf i) (not-member a (finished-not a f) ∙ sym (Lines.less-none (names r))))
+          (λ f. named-by [] (left-by [] (q ∙ rw f)) (ap limitOf i) (not-member a (finished-not a f) ∙ sym (Less.less-none (names r))))
           (λ f. named-by (a ∷ []) (left-by (moves a stops ∷ []) (q ∙ rw f)) (ap limitOf i) one))
           (λ y. let i = eqb-true (m .number) 10 (or-rest (eqb (m .number) 5) (eqb (m .number) 10) g y) in
           named-by (a ∷ []) (left-by _ (ap (λ (f : Effect). f .edits) (R .aborts i))) (ap limitOf i) one)

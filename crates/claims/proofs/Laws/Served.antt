@@ -11,6 +11,7 @@ use Rattle.lines.specs.Logic.{if_then_else_, oneIf}
 use Rattle.lines.specs.Lists.{filter, first, count}
 use Rattle.lines.proofs.Laws.Logic.{by-test, by-eq, by-choice, never, and-left, and-right, and-in, implies-out}
 use Rattle.lines.proofs.Laws.Lists
+use Rattle.lines.proofs.Laws.Less
 use Rattle.scheduler.specs.declared.thread.Thread.{Thread}
 use Rattle.scheduler.specs.declared.thread.Place.{Place}
 use Rattle.scheduler.specs.Threads.{readyb, waitsb, pausedb, standsb, placedb, numberOf, inState, awake}
@@ -194,7 +195,7 @@ module _ (d : Kind) (n : ℕ) (k : Kernel) (F : Fit k) where
     -- the only edit stores, or none serves anybody there
     pub later-stored : (y : Object d) → e .edits ≡ stores d n y ∷ [] → later d n k x ≡ 0
     unfolding movers
-    later-stored y z = filter-none (servedb x) line (λ u c. other-unserved u (here u c) (ap (λ (es : List Edit). count u (movers anyb es)) z ∙ Lines.count-none u))
+    later-stored y z = filter-none (servedb x) line (λ u c. other-unserved u (here u c) (ap (λ (es : List Edit). count u (movers anyb es)) z ∙ Less.count-none u))
 
     pub later-apart : allb (apartb p) (e .edits) ≡ true → later d n k x ≡ 0
     later-apart all =
@@ -211,4 +212,4 @@ module _ (d : Kind) (n : ℕ) (k : Kernel) (F : Fit k) where
         let one = W .among (λ y. not (apartb p y)) (ap (allb (λ y. not (apartb p y))) q ∙ rw (Lines.place-same p p refl)) in
         filter-first (servedb x) line (ltb-true t 32 f) (Orders.line-once (k .scheduler) (F .steady) t p)
         (mover-served t (first-placed (k .scheduler) p (ltb-true t 32 f)) W ∙ one)
-        (λ u c o. other-unserved u (here u c) (counts u ∙ Lists.count-there u t [] (λ z. o (sym z)) ∙ Lines.count-none u))
+        (λ u c o. other-unserved u (here u c) (counts u ∙ Lists.count-there u t [] (λ z. o (sym z)) ∙ Less.count-none u))

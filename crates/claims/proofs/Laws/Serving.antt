@@ -7,9 +7,10 @@ use native.Mathlib.Omega.{arith}
 use lib.Dec.{eqb}
 use borrow.Author.Tests.{eqb-true, eq-eqb, ne-eqb}
 use Rattle.lines.specs.Logic.{if_then_else_, oneIf}
-use Rattle.lines.specs.Lists.{count, without, onlyIf}
+use Rattle.lines.specs.Lists.{count, without, onlyIf, less}
 use Rattle.lines.proofs.Laws.Logic.{by-test, by-eq, never, and-left, and-right, and-in, or-rest}
 use Rattle.lines.proofs.Laws.Lists
+use Rattle.lines.proofs.Laws.Less
 use Rattle.scheduler.specs.declared.thread.Thread.{Thread}
 use Rattle.scheduler.specs.declared.thread.Place.{Place}
 use Rattle.scheduler.specs.Threads.{readyb, waitsb, standsb, numberOf, placedb, inState}
@@ -85,7 +86,7 @@ module _ (p : Place) (waiters : 4 < p .state) where
       by-test (leavesb p m) (λ l. rw l at z)
       (λ l. by-eq t u
       (λ q. never (ap (λ (v : ℕ). placedb p (threadOf k v)) q ∙ y) (Lines.away p waiters m (threadOf k t) (G .was) l))
-      (λ q. Lists.count-there u t [] q ∙ Lines.count-none u))
+      (λ q. Lists.count-there u t [] q ∙ Less.count-none u))
   unmoved k (alters t f) G u y z = z
   unmoved k (counts t) G u y z = z
   unmoved k (ranks d n) G u y z = z
@@ -95,7 +96,7 @@ module _ (p : Place) (waiters : 4 < p .state) where
   -- and keeps what it holds, in tables y that differ by the choice
   kept-all : (k y : Kernel) → Steady (k .scheduler) → (es : List Edit) → Fits.Firms k es → (u : ℕ) → Fates.Kept (applied k es) y u 0 → placedb p (threadOf k u) ≡ true → count u (movers (leavesb p) es) ≡ 0 → Fates.Kept k y u (count u (counted es))
   unfolding applied counted
-  kept-all k y S [] G u C h z = rw (Lines.count-none u) C
+  kept-all k y S [] G u C h z = rw (Less.count-none u) C
   kept-all k y S (e ∷ es) G u C h z =
       let c = Fates.movers-count (leavesb p) e es u in
       let a = Fates.kept-all k S (e ∷ []) (G .0, tt) u (unmoved k e (G .0) u h (omega (arith, c, z))) in
@@ -119,7 +120,7 @@ module _ (p : Place) (waiters : 4 < p .state) where
         let line = Does.chosen-line k n a e P p ∙ Lines.waiters-after p waiters k (F .steady) es (P .firm) s r in
         record {
           line = ([], line ∙ sym (append-nil _));
-          gone = λ u c. ap (count u) line ∙ Lines.less-gone (movers (leavesb p) es) (lineAt (k .scheduler) p) u c;
+          gone = λ u c. ap (count u) line ∙ Less.less-gone (movers (leavesb p) es) (lineAt (k .scheduler) p) u c;
           kept = kept;
         }
 
@@ -130,14 +131,14 @@ module _ (p : Place) (waiters : 4 < p .state) where
         let l = lineAt (k .scheduler) p in
         let b = placedb p (inState state object ticks (threadOf k t)) in
         let away = Lines.away p waiters (starts front state object ticks h) (threadOf k t) (subst (Fits.Firms k) q (P .firm) .0 .was) refl in
-        let same : without t l ≡ Lines.less [] l = Lists.without-none t l (Orders.line-count (k .scheduler) (F .steady) t p ∙ ap oneIf away) ∙ sym (Lines.less-none l) in
+        let same : without t l ≡ less [] l = Lists.without-none t l (Orders.line-count (k .scheduler) (F .steady) t p ∙ ap oneIf away) ∙ sym (Less.less-none l) in
         let line = Does.chosen-line k n a e P p ∙ Lines.line-after k (F .steady) es (P .firm) p ∙ ap (λ (fs : List Edit). linesBy k fs p l) q in
         record {
           line = by-test front
-              (λ f. ([], line ∙ rw (f, back f) (same ∙ sym (append-nil (Lines.less [] l)))))
+              (λ f. ([], line ∙ rw (f, back f) (same ∙ sym (append-nil (less [] l)))))
               (λ f. (onlyIf b t, line ∙ rw f (ap (λ (ys : List ℕ). ys ++ onlyIf b t) same)));
-          gone = λ u c. absurd (let z = Lines.count-none u in omega (arith, c, z));
-          kept = λ u c z. subst (λ (fs : List Edit). Fates.Kept k x u (count u (counted fs))) q (kept u c (ap (λ (fs : List Edit). count u (movers (leavesb p) fs)) q ∙ Lines.count-none u));
+          gone = λ u c. absurd (let z = Less.count-none u in omega (arith, c, z));
+          kept = λ u c z. subst (λ (fs : List Edit). Fates.Kept k x u (count u (counted fs))) q (kept u c (ap (λ (fs : List Edit). count u (movers (leavesb p) fs)) q ∙ Less.count-none u));
         }
 
 -- ---- the calls of an object

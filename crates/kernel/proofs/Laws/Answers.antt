@@ -54,7 +54,3 @@ held-out k t h e o = rw (set-out (k .held) t h (omega (arith, e, o)))
 pub queue-out : (k : Kernel) (n : ℕ) (q : Queue) → length (k .queues) ≡ 8 → 8 ≤ n → withQueue k n q ≡ k
 unfolding withQueue
 queue-out k n q e o = rw (set-out (k .queues) n q (omega (arith, e, o)))
-
--- ---- refused for a known reason
-pub refused-for : (k : Kernel) (reason status : ℕ) (o : Outcome) → reason ≡ status → (status ≡ 0 → ⊥) → refused k status ≡ guarded k reason o
-refused-for k reason status o e n = ap (refused k) (sym e) ∙ sym (is-refused k reason o (λ z. n (sym e ∙ z)))

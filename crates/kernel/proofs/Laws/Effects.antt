@@ -11,6 +11,7 @@ use Rattle.lines.specs.Logic.{if_then_else_}
 use Rattle.lines.specs.Lists.{count}
 use Rattle.lines.proofs.Laws.Logic.{by-test, by-eq, never, and-left, and-right, and-in, or-rest}
 use Rattle.lines.proofs.Laws.Lists
+use Rattle.lines.proofs.Laws.Less
 use Rattle.scheduler.specs.declared.thread.Thread.{Thread}
 use Rattle.scheduler.specs.Threads.{readyb, pausedb, awake, inState}
 use Rattle.scheduler.specs.Orders.{joined, woken}
@@ -35,7 +36,7 @@ use Rattle.kernel.specs.Edits.Success.{done, waits}
 use Rattle.kernel.specs.Roles.{Row, rowOf, oneOf, kindOf, mayMoveb, mayb, allb}
 use Rattle.kernel.specs.Effects.{gives, does, begins, endsEach, newOf, Takes, Gives, Role}
 use Rattle.kernel.proofs.Laws.Objects
-use Rattle.kernel.proofs.Laws.Held
+use Rattle.waiting.proofs.Laws.Held
 use Rattle.kernel.proofs.Laws.Fits
 use Rattle.kernel.proofs.Laws.Lines
 use Rattle.kernel.proofs.Laws.Fates
@@ -150,10 +151,10 @@ runner-ready k S l = eqb-true (threadOf k (runnerOf k) .state) 0 (and-right (thr
 
 -- ---- one edit, or none
 pub once-only : (t u : ℕ) → count u (t ∷ []) ≤ 1
-once-only t u = by-eq u t (λ z. let h = Lists.count-here t [] in let c = Lines.count-none t in let y = ap (λ (v : ℕ). count v (t ∷ [])) z in omega (arith, h, c, y)) (λ z. let y = Lists.count-there u t [] (λ q. z (sym q)) in let c = Lines.count-none u in omega (arith, y, c))
+once-only t u = by-eq u t (λ z. let h = Lists.count-here t [] in let c = Less.count-none t in let y = ap (λ (v : ℕ). count v (t ∷ [])) z in omega (arith, h, c, y)) (λ z. let y = Lists.count-there u t [] (λ q. z (sym q)) in let c = Less.count-none u in omega (arith, y, c))
 
 pub only-one : (t u : ℕ) → 0 < count u (t ∷ []) → u ≡ t
-only-one t u l = by-eq u t (λ z. z) (λ z. absurd (let y = Lists.count-there u t [] (λ q. z (sym q)) in let c = Lines.count-none u in omega (arith, l, y, c)))
+only-one t u l = by-eq u t (λ z. z) (λ z. absurd (let y = Lists.count-there u t [] (λ q. z (sym q)) in let c = Less.count-none u in omega (arith, l, y, c)))
 
 once-one : (e : Edit) (u : ℕ) → count u (movers anyb (e ∷ [])) ≤ 1
 unfolding movers count
@@ -311,7 +312,7 @@ module _ (c : Cause) (words : List ℕ) where
         let firm = Fits.firms-of k (endsEach c words xs) (fits-each k F xs once was) in
         let moved = ap (count u) (movers-each anyb xs refl) in
         by-eq (count u xs) 0
-        (λ z. (z, rw (← Lines.count-none u, ← counted-each xs) (Fates.kept-all k (F .steady) (endsEach c words xs) firm u (moved ∙ z))))
+        (λ z. (z, rw (← Less.count-none u, ← counted-each xs) (Fates.kept-all k (F .steady) (endsEach c words xs) firm u (moved ∙ z))))
         (λ z. let o = once u in
         let q : count u xs ≡ 1 = omega (arith, z, o) in
         let g = Fates.went k (F .steady) (F .heldSized) (endsEach c words xs) firm u (moved ∙ q) in

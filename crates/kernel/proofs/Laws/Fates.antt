@@ -9,6 +9,7 @@ use lib.Seq.{getD-set-same, getD-set-other}
 use Rattle.lines.specs.Lists.{count}
 use Rattle.lines.proofs.Laws.Logic.{by-eq}
 use Rattle.lines.proofs.Laws.Lists
+use Rattle.lines.proofs.Laws.Less
 use Rattle.scheduler.specs.declared.thread.Thread.{Thread}
 use Rattle.scheduler.specs.declared.Scheduler.{Scheduler}
 use Rattle.scheduler.specs.Threads.{pausedb}
@@ -76,14 +77,14 @@ kept-counted k S t G u =
     (λ e. record {
       held = scheduler-held k (withThread (k .scheduler) t x) u;
       seen = Orders.kept-all (k .scheduler) S t x (A .small) Fits.seen (A .seen) u;
-      ticks = (let c = ap (λ (v : ℕ). count v (t ∷ [])) e in let h = Lists.count-here t [] in let z = Lines.count-none t in
+      ticks = (let c = ap (λ (v : ℕ). count v (t ∷ [])) e in let h = Lists.count-here t [] in let z = Less.count-none t in
           let q = ap (λ (v : ℕ). threadAt (withThread (k .scheduler) t x) v .ticks) e ∙ ap (λ (y : Thread). y .ticks) (Orders.kept-self (k .scheduler) S t x (A .small)) in
           let r = ap (λ (v : ℕ). threadOf k v .ticks) e in omega (arith, c, h, z, q, r));
     })
     (λ e. record {
       held = scheduler-held k (withThread (k .scheduler) t x) u;
       seen = ap Fits.seen (Orders.kept-other (k .scheduler) S t x (A .small) u e);
-      ticks = (let c = Lists.count-there u t [] (λ z. e (sym z)) in let z = Lines.count-none u in
+      ticks = (let c = Lists.count-there u t [] (λ z. e (sym z)) in let z = Less.count-none u in
           let q = ap (λ (y : Thread). y .ticks) (Orders.kept-other (k .scheduler) S t x (A .small) u e) in omega (arith, c, z, q));
     })
 
@@ -214,11 +215,11 @@ unmoved-first u = refl
 
 moved-first : (t u : ℕ) (m : Move) → (u ≡ t → ⊥) → count u (movers anyb (moves t m ∷ [])) ≡ 0
 unfolding movers
-moved-first t u m e = Lists.count-there u t [] (λ z. e (sym z)) ∙ Lines.count-none u
+moved-first t u m e = Lists.count-there u t [] (λ z. e (sym z)) ∙ Less.count-none u
 
 moved-here : (t u : ℕ) (m : Move) → u ≡ t → count u (movers anyb (moves t m ∷ [])) ≡ 1
 unfolding movers
-moved-here t u m e = let h = Lists.count-here t [] in let z = Lines.count-none t in let y = ap (λ (v : ℕ). count v (t ∷ [])) e in omega (arith, h, z, y)
+moved-here t u m e = let h = Lists.count-here t [] in let z = Less.count-none t in let y = ap (λ (v : ℕ). count v (t ∷ [])) e in omega (arith, h, z, y)
 
 went-head : (k : Kernel) → Steady (k .scheduler) → length (k .held) ≡ 32 → (e : Edit) (es : List Edit) → Fits.Firms k (e ∷ es) → (u : ℕ) → (count u (movers anyb (e ∷ [])) ≡ 0 → ⊥) → count u (movers anyb (e ∷ es)) ≡ 1 → Went k (applied k (e ∷ es)) (e ∷ es) u
 unfolding movers

@@ -37,7 +37,7 @@ use Rattle.kernel.specs.Edits.Cause.{served, deleted, timedOut, aborted}
 use Rattle.kernel.specs.Edits.Move.{ends, starts, stops, turns}
 use Rattle.kernel.specs.Edits.Edit.{moves, alters, counts, ranks, stores, sets}
 use Rattle.kernel.proofs.Laws.Objects
-use Rattle.kernel.proofs.Laws.Held
+use Rattle.waiting.proofs.Laws.Held
 
 -- ---- what an edit asks of the tables before it
 -- what a thread's record was, by the way in which it moves

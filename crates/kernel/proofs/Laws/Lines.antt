@@ -1,15 +1,15 @@
 -- The line of every place after any edits.
 use mathlib.Core.Path.{_≡_, refl, sym, ap, _∙_}
 use mathlib.Core.List.{List, [], _∷_, _++_, append-nil}
-use mathlib.Core.Bool.{Bool, true, false, _&&_, not}
-use Prim.Native.Nat.{ℕ, _<_, _+_}
-use native.Mathlib.Omega.{arith}
+use mathlib.Core.Bool.{Bool, true, false, not}
+use Prim.Native.Nat.{ℕ, _<_}
 use lib.Dec.{eqb}
-use borrow.Author.Tests.{eqb-true, eq-eqb, ne-eqb}
+use borrow.Author.Tests.{eqb-true, eq-eqb}
 use Rattle.lines.specs.Logic.{if_then_else_, oneIf}
-use Rattle.lines.specs.Lists.{filter, count, without, onlyIf, prioritised}
-use Rattle.lines.proofs.Laws.Logic.{by-test, by-eq, by-choice, never, and-left, and-right, and-in}
+use Rattle.lines.specs.Lists.{without, onlyIf, prioritised, less}
+use Rattle.lines.proofs.Laws.Logic.{by-test, by-choice, never, and-left, and-right, and-in}
 use Rattle.lines.proofs.Laws.Lists
+use Rattle.lines.proofs.Laws.Less
 use Rattle.scheduler.specs.declared.thread.Thread.{Thread}
 use Rattle.scheduler.specs.declared.thread.Place.{Place}
 use Rattle.scheduler.specs.declared.Scheduler.{Scheduler}
@@ -69,61 +69,6 @@ pub line-after : (k : Kernel) → Steady (k .scheduler) → (es : List Edit) →
 unfolding applied linesBy
 line-after k S [] G p = refl
 line-after k S (e ∷ es) G p = line-after (edited k e) (Fits.steady-edit k S e (G .0)) es (G .1) p ∙ ap (linesBy (edited k e) es p) (line-edit k S e (G .0) p)
-
--- ---- a list less all of another
-unfoldable pub less : List ℕ → List ℕ → List ℕ
-less ts l = filter (λ u. eqb (count u ts) 0) l
-
-filter-both : (f g : ℕ → Bool) (xs : List ℕ) → filter f (filter g xs) ≡ filter (λ u. g u && f u) xs
-unfolding filter
-filter-both f g [] = refl
-filter-both f g (x ∷ xs) =
-    by-test (g x)
-    (λ e. rw e (by-test (f x) (λ z. rw z (ap {B = List ℕ} (λ l. x ∷ l) (filter-both f g xs))) (λ z. rw z (filter-both f g xs))))
-    (λ e. rw e (filter-both f g xs))
-
-zero-sum : (a b : ℕ) → (eqb a 0 && eqb b 0) ≡ eqb (a + b) 0
-zero-sum a b =
-    by-eq a 0
-    (λ e. let s : b ≡ a + b = omega (arith, e) in rw (eq-eqb a 0 e) (ap (λ (n : ℕ). eqb n 0) s))
-    (λ e. rw (ne-eqb a 0 e) (sym (ne-eqb (a + b) 0 (λ z. e (omega (arith, z))))))
-
-pub less-less : (rs ts l : List ℕ) → less ts (less rs l) ≡ less (rs ++ ts) l
-unfolding less
-less-less rs ts l =
-    filter-both (λ u. eqb (count u ts) 0) (λ u. eqb (count u rs) 0) l
-    ∙ Lists.filter-same (λ u. eqb (count u rs) 0 && eqb (count u ts) 0) (λ u. eqb (count u (rs ++ ts)) 0) l
-    (λ u. zero-sum (count u rs) (count u ts) ∙ sym (ap (λ (n : ℕ). eqb n 0) (Lists.count-append u rs ts)))
-
-pub less-append : (ts xs ys : List ℕ) → less ts (xs ++ ys) ≡ less ts xs ++ less ts ys
-unfolding less
-less-append ts xs ys = Lists.filter-append (λ u. eqb (count u ts) 0) xs ys
-
-pub less-none : (l : List ℕ) → less [] l ≡ l
-unfolding less count filter
-less-none [] = refl
-less-none (x ∷ xs) = ap {B = List ℕ} (λ l. x ∷ l) (less-none xs)
-
-pub count-none : (u : ℕ) → count u [] ≡ 0
-unfolding count
-count-none u = refl
-
-pub less-one : (t : ℕ) (l : List ℕ) → less (t ∷ []) l ≡ without t l
-unfolding less without
-less-one t l =
-    Lists.filter-same (λ u. eqb (count u (t ∷ [])) 0) (λ x. not (eqb x t)) l
-    (λ u. by-eq u t
-    (λ e. let c = Lists.count-here t [] in rw (e, eq-eqb t t refl) (ne-eqb (count t (t ∷ [])) 0 (λ z. omega (arith, c, z))))
-    (λ e. rw (ne-eqb u t e) (eq-eqb (count u (t ∷ [])) 0 (Lists.count-there u t [] (λ z. e (sym z)) ∙ count-none u))))
-
--- who is less is gone, and who is not stays
-pub less-gone : (ts l : List ℕ) (u : ℕ) → 0 < count u ts → count u (less ts l) ≡ 0
-unfolding less
-less-gone ts l u c = Lists.count-dropped (λ v. eqb (count v ts) 0) u l (ne-eqb (count u ts) 0 (λ z. omega (arith, c, z)))
-
-pub less-kept : (ts l : List ℕ) (u : ℕ) → count u ts ≡ 0 → count u (less ts l) ≡ count u l
-unfolding less
-less-kept ts l u z = Lists.count-kept (λ v. eqb (count v ts) 0) u l (eq-eqb (count u ts) 0 z)
 
 -- ---- who moves, edit by edit
 pub movers-then : (c : Move → Bool) (e : Edit) (es : List Edit) → movers c (e ∷ es) ≡ movers c (e ∷ []) ++ movers c es
@@ -218,8 +163,8 @@ module _ (p : Place) (waiters : 4 < p .state) where
   unfolding oneIf
   left k S t m w =
       by-test (leavesb p m)
-      (λ y. rw y (sym (less-one t (lineAt (k .scheduler) p))))
-      (λ y. rw y (Lists.without-none t (lineAt (k .scheduler) p) (Orders.line-count (k .scheduler) S t p ∙ ap oneIf (away m (threadOf k t) w y)) ∙ sym (less-none (lineAt (k .scheduler) p))))
+      (λ y. rw y (sym (Less.less-one t (lineAt (k .scheduler) p))))
+      (λ y. rw y (Lists.without-none t (lineAt (k .scheduler) p) (Orders.line-count (k .scheduler) S t p ∙ ap oneIf (away m (threadOf k t) w y)) ∙ sym (Less.less-none (lineAt (k .scheduler) p))))
 
   -- one edit
   waiters-edit : (k : Kernel) → Steady (k .scheduler) → (e : Edit) → Fits.Firm k e → unstartedb e ≡ true → unrankedb p e ≡ true
@@ -228,15 +173,15 @@ module _ (p : Place) (waiters : 4 < p .state) where
   waiters-edit k S (moves t m) G u r =
       let n = not-no (startsb m) u in
       line-edit k S (moves t m) G p ∙ rw (behind m n, unplaced k t m G n) (append-nil (without t (lineAt (k .scheduler) p)) ∙ left k S t m (G .was))
-  waiters-edit k S (alters t f) G u r = line-edit k S (alters t f) G p ∙ sym (less-none (lineAt (k .scheduler) p))
-  waiters-edit k S (counts t) G u r = line-edit k S (counts t) G p ∙ sym (less-none (lineAt (k .scheduler) p))
-  waiters-edit k S (ranks d n) G u r = line-edit k S (ranks d n) G p ∙ rw (not-no (sameb p (placeOf d n)) r) (sym (less-none (lineAt (k .scheduler) p)))
-  waiters-edit k S (stores d n x) G u r = line-edit k S (stores d n x) G p ∙ sym (less-none (lineAt (k .scheduler) p))
-  waiters-edit k S (sets c) G u r = line-edit k S (sets c) G p ∙ sym (less-none (lineAt (k .scheduler) p))
+  waiters-edit k S (alters t f) G u r = line-edit k S (alters t f) G p ∙ sym (Less.less-none (lineAt (k .scheduler) p))
+  waiters-edit k S (counts t) G u r = line-edit k S (counts t) G p ∙ sym (Less.less-none (lineAt (k .scheduler) p))
+  waiters-edit k S (ranks d n) G u r = line-edit k S (ranks d n) G p ∙ rw (not-no (sameb p (placeOf d n)) r) (sym (Less.less-none (lineAt (k .scheduler) p)))
+  waiters-edit k S (stores d n x) G u r = line-edit k S (stores d n x) G p ∙ sym (Less.less-none (lineAt (k .scheduler) p))
+  waiters-edit k S (sets c) G u r = line-edit k S (sets c) G p ∙ sym (Less.less-none (lineAt (k .scheduler) p))
 
   nobody-left : (k : Kernel) → lineAt (k .scheduler) p ≡ less (movers (leavesb p) []) (lineAt (k .scheduler) p)
   unfolding movers
-  nobody-left k = sym (less-none (lineAt (k .scheduler) p))
+  nobody-left k = sym (Less.less-none (lineAt (k .scheduler) p))
 
   -- a line of waiters after edits that begin no wait and do not rank it: those who left it for a cause of that place are gone
   pub waiters-after : (k : Kernel) → Steady (k .scheduler) → (es : List Edit) → Fits.Firms k es → allb unstartedb es ≡ true → allb (unrankedb p) es ≡ true
@@ -246,5 +191,5 @@ module _ (p : Place) (waiters : 4 < p .state) where
   waiters-after k S (e ∷ es) G u r =
       waiters-after (edited k e) (Fits.steady-edit k S e (G .0)) es (G .1) (all-rest unstartedb e es u) (all-rest (unrankedb p) e es r)
       ∙ ap (less (movers (leavesb p) es)) (waiters-edit k S e (G .0) (all-first unstartedb e es u) (all-first (unrankedb p) e es r))
-      ∙ less-less (movers (leavesb p) (e ∷ [])) (movers (leavesb p) es) (lineAt (k .scheduler) p)
+      ∙ Less.less-less (movers (leavesb p) (e ∷ [])) (movers (leavesb p) es) (lineAt (k .scheduler) p)
       ∙ ap (λ (ts : List ℕ). less ts (lineAt (k .scheduler) p)) (sym (movers-then (leavesb p) e es))

@@ -1,7 +1,7 @@
 -- The test of soundness holds exactly of sound tables; what the test finds, thread by thread.
 use mathlib.Core.Path.{_≡_, refl, sym, ap, ap₂, _∙_}
 use mathlib.Core.Bool.{Bool, true, false, _&&_, and-true, and-false}
-use Prim.Native.Nat.{ℕ, _+_, _≤_, _<_}
+use Prim.Native.Nat.{ℕ, _+_, _≤_}
 use native.Mathlib.Omega.{arith}
 use lib.ListN.{length, List·getD-eq-default}
 use lib.Dec.{eqb}
@@ -50,9 +50,6 @@ pub and-rest : {a b c : Bool} → c ≡ (a && b) → a ≡ true → c ≡ b
 and-rest {b = b} e h = e ∙ ap (λ (x : Bool). x && b) h
 
 -- ---- a number against the size of a table
-pub inside : {n m l : ℕ} → n < m → l ≡ m → n < l
-inside h e = omega arith
-
 pub outside : {n m l : ℕ} → m ≤ n → l ≡ m → l ≤ n
 outside h e = omega arith
 

@@ -317,10 +317,6 @@ pub begins-moved : (r l : List ℕ) (t : ℕ) (ys : List ℕ) → Begins r l →
 begins-moved r l t ys (w, e) =
     (without t w ++ ys, ap (λ (z : List ℕ). without t z ++ ys) e ∙ ap (λ (z : List ℕ). z ++ ys) (without-append t r w) ∙ append-assoc (without t r) (without t w) ys)
 
--- one who is not in the beginning
-pub begins-other : (r l : List ℕ) (t : ℕ) (ys : List ℕ) → count t r ≡ 0 → Begins r l → Begins r (without t l ++ ys)
-begins-other r l t ys z b = rw (without-none t r z) at (begins-moved r l t ys b)
-
 -- who stands in the beginning stands in the list
 pub begins-count : (r l : List ℕ) → Begins r l → (t : ℕ) → count t r ≤ count t l
 begins-count r l (w, e) t = let a = ap (count t) e ∙ count-append t r w in omega (arith, a)

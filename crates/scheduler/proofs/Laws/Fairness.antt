@@ -1,10 +1,9 @@
 -- An order that begins with a list of threads: what each move does to that beginning, whatever the kind of place.
-use mathlib.Core.Path.{_≡_, ap, _∙_}
+use mathlib.Core.Path.{_≡_}
 use mathlib.Core.List.{List, [], _∷_, append-nil}
 use mathlib.Core.Bool.{true, false}
 use Prim.Native.Nat.{ℕ, _<_}
 use native.Mathlib.Omega.{arith}
-use Rattle.lines.specs.Logic.{oneIf}
 use Rattle.lines.specs.Lists.{without, onlyIf, count, firstWith, Begins}
 use Rattle.lines.specs.Lines.{members}
 use Rattle.lines.proofs.Laws.Lists
@@ -17,29 +16,17 @@ use Rattle.scheduler.specs.Sound.{fitb, Steady}
 use Rattle.scheduler.proofs.Laws.Orders
 
 module _ (s : Scheduler) (S : Steady s) (p : Place) (r : List ℕ) (B : Begins r (lineAt s p)) where
-  -- who stands elsewhere is not in the beginning
-  absent : (t : ℕ) → placedb p (threadAt s t) ≡ false → count t r ≡ 0
-  unfolding oneIf
-  absent t h = let c = Orders.line-count s S t p ∙ ap oneIf h in let b = Lists.begins-count r (lineAt s p) B t in omega (arith, c, b)
-
   module _ (t : ℕ) (th : Thread) (small : t < 32) where
     module _ (f : fitb th ≡ true) where
       -- a move to the end of any place, or out of every order: the beginning stays, less the moved thread
       pub moved-begins : Begins (without t r) (lineAt (moved s t th) p)
       moved-begins = rw (Orders.moved-line s S t th small f p) (Lists.begins-moved r (lineAt s p) t (onlyIf (placedb p th) t) B)
 
-      -- whole, where the thread stood elsewhere
-      pub other-begins : placedb p (threadAt s t) ≡ false → Begins r (lineAt (moved s t th) p)
-      other-begins h = rw (Orders.moved-line s S t th small f p) (Lists.begins-other r (lineAt s p) t (onlyIf (placedb p th) t) (absent t h) B)
-
       -- a move to the front of another place
       pub front-begins : placedb p th ≡ false → Begins (without t r) (lineAt (movedFront s t th) p)
       front-begins h =
           rw (Orders.front-line s S t th small f p, h, ← append-nil (without t (lineAt s p)))
           (Lists.begins-moved r (lineAt s p) t [] B)
-
-      pub front-other-begins : placedb p th ≡ false → placedb p (threadAt s t) ≡ false → Begins r (lineAt (movedFront s t th) p)
-      front-other-begins h g = rw (Lists.without-none t r (absent t g)) at (front-begins h)
 
       -- who leaves the place stands there no more
       pub moved-gone : placedb p th ≡ false → count t (lineAt (moved s t th) p) ≡ 0

@@ -1,6 +1,6 @@
 -- Calls 13 to 15: what each does.
 use mathlib.Core.Path.{_≡_, refl, sym, ap, _∙_}
-use mathlib.Core.List.{List, [], _∷_, _++_}
+use mathlib.Core.List.{List, [], _∷_, _++_, append-nil}
 use mathlib.Core.Bool.{Bool, true, false}
 use Prim.Native.Nat.{ℕ, zero, suc, _≤_, _-_}
 use Prim.{tt}
@@ -20,7 +20,7 @@ use Rattle.kernel.specs.Answers.{carried, guarded}
 use Rattle.kernel.specs.Waits.{endWait, tickOne, tickBelow, ticked, oneMore}
 use Rattle.kernel.specs.Sound.{Sound}
 use Rattle.kernel.specs.Sound.{Fit}
-use Rattle.kernel.specs.Edits.{Edit, Effect, statusBy, statusOf, recordBy, heldBy, frontb, anyb, endsb, startsb, movers, edited, applied, carriedOut}
+use Rattle.kernel.specs.Edits.{Move, Edit, Effect, statusBy, statusOf, recordBy, heldBy, frontb, anyb, endsb, startsb, movers, edited, applied, carriedOut}
 use Rattle.kernel.specs.Edits.Cause.{timedOut}
 use Rattle.kernel.specs.Edits.Move.{ends}
 use Rattle.kernel.specs.Edits.Edit.{moves, counts, sets}
@@ -32,8 +32,6 @@ use Rattle.kernel.proofs.Laws.Fits
 use Rattle.kernel.proofs.Laws.Lines
 use Rattle.kernel.proofs.Laws.Does
 use Rattle.kernel.proofs.Laws.Effects
-
-use mathlib.Core.List.{append-nil}
 use Rattle.kernel.specs.Waits.{timedOut as timedOutBelow}
 use Rattle.kernel.specs.Clock as Calls
 use Rattle.kernel.proofs.Laws.Waits.{below-other}
@@ -52,22 +50,13 @@ tick-is k t = both (lastTickb (threadOf k t)) (timedb (threadOf k t))
     both false true = refl
     both false false = refl
 
--- whom it ends, and that it is one edit at most
-tick-ends : (th : Thread) (t : ℕ) → movers endsb (Effect.tickOf th t) ≡ onlyIf (lastTickb th) t
-unfolding movers endsb Effect.tickOf
-tick-ends th t = both (lastTickb th) (timedb th)
-  where
-    both : (last timed : Bool) → movers endsb (if last then moves t (ends timedOut noWords) ∷ [] else if timed then counts t ∷ [] else []) ≡ onlyIf last t
-    both true timed = refl
-    both false true = refl
-    both false false = refl
-
-tick-moves : (th : Thread) (t : ℕ) → movers anyb (Effect.tickOf th t) ≡ onlyIf (lastTickb th) t
+-- whom it moves, in a way that counts: whose last tick it is
+tick-movers : (c : Move → Bool) → c (ends timedOut noWords) ≡ true → (th : Thread) (t : ℕ) → movers c (Effect.tickOf th t) ≡ onlyIf (lastTickb th) t
 unfolding movers Effect.tickOf
-tick-moves th t = both (lastTickb th) (timedb th)
+tick-movers c y th t = both (lastTickb th) (timedb th)
   where
-    both : (last timed : Bool) → movers anyb (if last then moves t (ends timedOut noWords) ∷ [] else if timed then counts t ∷ [] else []) ≡ onlyIf last t
-    both true timed = refl
+    both : (last timed : Bool) → movers c (if last then moves t (ends timedOut noWords) ∷ [] else if timed then counts t ∷ [] else []) ≡ onlyIf last t
+    both true timed = rw y refl
     both false true = refl
     both false false = refl
 
@@ -93,15 +82,10 @@ below-is k (suc n) =
     ∙ ap (λ (th : Thread). applied (tickBelow n k) (Effect.tickOf th n)) (sym (below-other k n n (omega arith)))
     ∙ tick-is (tickBelow n k) n
 
-pub below-ends : (k : Kernel) (n : ℕ) → movers endsb (Effect.ticksBelow n k) ≡ timedOutBelow n k
+pub below-movers : (c : Move → Bool) → c (ends timedOut noWords) ≡ true → (k : Kernel) (n : ℕ) → movers c (Effect.ticksBelow n k) ≡ timedOutBelow n k
 unfolding Effect.ticksBelow timedOutBelow movers
-below-ends k zero = refl
-below-ends k (suc n) = Lines.movers-append endsb (Effect.ticksBelow n k) (Effect.tickOf (threadOf k n) n) ∙ (λ i. below-ends k n i ++ tick-ends (threadOf k n) n i)
-
-below-moves : (k : Kernel) (n : ℕ) → movers anyb (Effect.ticksBelow n k) ≡ timedOutBelow n k
-unfolding Effect.ticksBelow timedOutBelow movers
-below-moves k zero = refl
-below-moves k (suc n) = Lines.movers-append anyb (Effect.ticksBelow n k) (Effect.tickOf (threadOf k n) n) ∙ (λ i. below-moves k n i ++ tick-moves (threadOf k n) n i)
+below-movers c y k zero = refl
+below-movers c y k (suc n) = Lines.movers-append c (Effect.ticksBelow n k) (Effect.tickOf (threadOf k n) n) ∙ (λ i. below-movers c y k n i ++ tick-movers c y (threadOf k n) n i)
 
 below-all : (f : Edit → Bool) → ((t : ℕ) → f (moves t (ends timedOut noWords)) ≡ true) → ((t : ℕ) → f (counts t) ≡ true) → (k : Kernel) (n : ℕ) → allb f (Effect.ticksBelow n k) ≡ true
 unfolding allb Effect.ticksBelow
@@ -147,11 +131,11 @@ module _ (k : Kernel) (b c : ℕ) (messages : List ℕ) (caller : ℕ) where
   clock = sets (oneMore (k .clock))
 
   tick-carries : carried (ticked k) 0 noWords (timedOutBelow 32 k) ≡ carriedOut k (Effect.tickEffect k)
-  unfolding clock ticked applied edited movers statusOf Effect.tickEffect
+  unfolding clock ticked applied edited movers endsb statusOf Effect.tickEffect
   tick-carries =
       Effects.carries k _ done noWords _ (Effect.ticksBelow 32 k ++ (clock ∷ []))
       (sym (Effects.applied-append k (Effect.ticksBelow 32 k) (clock ∷ []) ∙ ap (λ (x : Kernel). withClock x (oneMore (k .clock))) (below-is k 32)))
-      (sym (Lines.movers-append endsb (Effect.ticksBelow 32 k) (clock ∷ []) ∙ append-nil _ ∙ below-ends k 32))
+      (sym (Lines.movers-append endsb (Effect.ticksBelow 32 k) (clock ∷ []) ∙ append-nil _ ∙ below-movers endsb refl k 32))
 
   tick-proper : (a : ℕ) → Sound k → Does.Proper k 15 a (Effect.tickEffect k)
   unfolding clock applied edited movers allb mayb mayMoveb startsb Lines.unstartedb Effect.tickEffect
@@ -162,7 +146,7 @@ module _ (k : Kernel) (b c : ℕ) (messages : List ℕ) (caller : ℕ) where
       record {
         firm = Fits.firms-of k (es ++ (clock ∷ [])) fits;
         fit = Fits.fit-all k F (es ++ (clock ∷ [])) fits;
-        once = λ u. (let o = below-once k 32 u .0 in let q = ap (count u) (Lines.movers-append anyb es (clock ∷ []) ∙ append-nil _ ∙ below-moves k 32) in omega (arith, o, q));
+        once = λ u. (let o = below-once k 32 u .0 in let q = ap (count u) (Lines.movers-append anyb es (clock ∷ []) ∙ append-nil _ ∙ below-movers anyb refl k 32) in omega (arith, o, q));
         may = Lines.all-append (mayb 15 a) es (clock ∷ []) (below-all (mayb 15 a) (λ t. refl) (λ t. refl) k 32) refl;
         shape = Lines.all-append Lines.unstartedb es (clock ∷ []) (below-all Lines.unstartedb (λ t. refl) (λ t. refl) k 32) refl;
       }

@@ -28,7 +28,6 @@ use Rattle.kernel.specs.Sound.{Sound}
 use Rattle.kernel.proofs.Laws.Answers.{second-none, unless-none}
 use Rattle.kernel.specs.Kinds.{placeOf}
 use Rattle.kernel.specs.Kinds.Kind.{group}
-use Rattle.kernel.specs.Sound.{Fit}
 use Rattle.kernel.specs.Edits.{Effect, statusBy, statusOf, recordBy, heldBy, frontb, endsb, movers, edited, applied, carriedOut}
 use Rattle.kernel.specs.Edits.Cause.{served}
 use Rattle.kernel.specs.Edits.Success.{waits}
@@ -36,13 +35,12 @@ use Rattle.kernel.specs.Roles.{oneOf, kindOf, mayMoveb, mayb}
 use Rattle.kernel.specs.Effects as Effect
 use Rattle.kernel.specs.Effects.{does, begins}
 use Rattle.kernel.proofs.Laws.Objects
-use Rattle.kernel.proofs.Laws.Held
+use Rattle.waiting.proofs.Laws.Held
 use Rattle.kernel.proofs.Laws.Fits
 use Rattle.kernel.proofs.Laws.Fates
 use Rattle.kernel.proofs.Laws.Does
 use Rattle.kernel.proofs.Laws.Effects
 use Rattle.kernel.proofs.Laws.Uses
-
 use Rattle.objects.specs.Groups.{groupWith, groupFitb, metb, clearOf, lessFlags}
 use Rattle.objects.proofs.Laws.Groups as Records
 use Rattle.kernel.specs.Groups as Calls

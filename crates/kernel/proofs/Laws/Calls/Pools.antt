@@ -22,7 +22,6 @@ use Rattle.kernel.specs.Waits.{endWait, startWait}
 use Rattle.kernel.specs.Sound.{Sound}
 use Rattle.kernel.proofs.Laws.Answers.{second-none, unless-none}
 use Rattle.kernel.specs.Kinds.Kind.{pool}
-use Rattle.kernel.specs.Sound.{Fit}
 use Rattle.kernel.specs.Edits.{Effect, statusBy, statusOf, recordBy, heldBy, frontb, endsb, movers, edited, applied, carriedOut}
 use Rattle.kernel.specs.Edits.Cause.{served}
 use Rattle.kernel.specs.Edits.Edit.{stores}
@@ -31,12 +30,11 @@ use Rattle.kernel.specs.Roles.{oneOf, kindOf, mayMoveb, mayb}
 use Rattle.kernel.specs.Effects as Effect
 use Rattle.kernel.specs.Effects.{does, begins, waitedb, Taker, Gives}
 use Rattle.kernel.proofs.Laws.Objects
-use Rattle.kernel.proofs.Laws.Held
+use Rattle.waiting.proofs.Laws.Held
 use Rattle.kernel.proofs.Laws.Fits
 use Rattle.kernel.proofs.Laws.Does
 use Rattle.kernel.proofs.Laws.Effects
 use Rattle.kernel.proofs.Laws.Uses
-
 use Rattle.blocks.specs.Pools.{blockSizesb, usedb, withoutNext, poolFitb}
 use Rattle.blocks.proofs.Laws.Pools as Records
 use Rattle.kernel.specs.Pools as Calls
@@ -95,18 +93,18 @@ module _ (k : Kernel) (b c : ℕ) (messages : List ℕ) (caller : ℕ) where
         effect = Effect.allocateEffect k n wait;
         is = ap (guarded k _) (Effects.either k (ltb 0 (poolAt k n .free)) _ _ _ _ refl refl);
         proper = λ S runs z. (let made = is-made n _ z in
-      let may = Effects.is-true _ Statuses.waitError _ (omega arith) (second-none _ _ z) in
-      let some = unless-none _ Statuses.noMemory (omega arith) (second-none _ _ (second-none _ _ z)) in
-      by-choice (Does.Proper k 35 n) (ltb 0 (poolAt k n .free)) _ _
-      (λ q. Effects.proper-store k (S .fit) 35 n pool n _ _ (given n S made q) (Effects.here n))
-      (λ q. asks n wait S made q (Effects.waiter-runs k caller wait runs may (ltb 0 (poolAt k n .free)) some q)));
+            let may = Effects.is-true _ Statuses.waitError _ (omega arith) (second-none _ _ z) in
+            let some = unless-none _ Statuses.noMemory (omega arith) (second-none _ _ (second-none _ _ z)) in
+            by-choice (Does.Proper k 35 n) (ltb 0 (poolAt k n .free)) _ _
+            (λ q. Effects.proper-store k (S .fit) 35 n pool n _ _ (given n S made q) (Effects.here n))
+            (λ q. asks n wait S made q (Effects.waiter-runs k caller wait runs may (ltb 0 (poolAt k n .free)) some q)));
         role = λ S z. Effects.take-role k 35 n b c messages _ refl refl refl refl
-      (record {
-        served = λ a. by-choice (λ (e : Effect). e .success ≡ done → (0 < poolAt k n .free) × (e .edits ≡ stores pool n (withoutNext (poolAt k n)) ∷ [])) (ltb 0 (poolAt k n .free)) _ _
-            (λ q s. (ltb-true 0 (poolAt k n .free) q, refl)) (λ q s. Does.waits-not-done s);
-        waits = λ a t T. (let none = free-none n S t T in
-            by-choice (λ (e : Effect). e .success ≡ waits) (ltb 0 (poolAt k n .free)) _ _ (λ q. absurd (let l = ltb-true 0 (poolAt k n .free) q in omega (arith, l, none))) (λ q. refl));
-      });
+            (record {
+              served = λ a. by-choice (λ (e : Effect). e .success ≡ done → (0 < poolAt k n .free) × (e .edits ≡ stores pool n (withoutNext (poolAt k n)) ∷ [])) (ltb 0 (poolAt k n .free)) _ _
+                  (λ q s. (ltb-true 0 (poolAt k n .free) q, refl)) (λ q s. Does.waits-not-done s);
+              waits = λ a t T. (let none = free-none n S t T in
+                  by-choice (λ (e : Effect). e .success ≡ waits) (ltb 0 (poolAt k n .free)) _ _ (λ q. absurd (let l = ltb-true 0 (poolAt k n .free) q in omega (arith, l, none))) (λ q. refl));
+            });
       }
 
   -- ---- 36
@@ -135,10 +133,10 @@ module _ (k : Kernel) (b c : ℕ) (messages : List ℕ) (caller : ℕ) where
         effect = Effect.releaseEffect k n (min b 64);
         is = ap (guarded k _) (Effects.either k (waitedb k pool n) _ _ _ _ refl refl);
         proper = λ S runs z. (let made = is-made n _ z in
-      let used = unless-none (usedb (poolAt k n) (min b 64)) Statuses.ptrError (omega arith) (second-none _ _ z) in
-      by-choice (Does.Proper k 36 n) (waitedb k pool n) _ _
-      (λ q. Uses.serve-proper pool k (S .fit) n 36 n _ q (Effects.here n))
-      (λ q. Effects.proper-store k (S .fit) 36 n pool n _ noWords (Uses.unwaited pool k (S .fit) n _ (small n S made) (Records.with-fit (poolAt k n) (fit n S made) made (min b 64) used) q) (Effects.here n)));
+            let used = unless-none (usedb (poolAt k n) (min b 64)) Statuses.ptrError (omega arith) (second-none _ _ z) in
+            by-choice (Does.Proper k 36 n) (waitedb k pool n) _ _
+            (λ q. Uses.serve-proper pool k (S .fit) n 36 n _ q (Effects.here n))
+            (λ q. Effects.proper-store k (S .fit) 36 n pool n _ noWords (Uses.unwaited pool k (S .fit) n _ (small n S made) (Records.with-fit (poolAt k n) (fit n S made) made (min b 64) used) q) (Effects.here n)));
         role = λ S z. Effects.give-role k 36 n b c messages _ refl refl refl refl (release-gives n (min b 64) S (is-block n S z) (unless-none (usedb (poolAt k n) (min b 64)) Statuses.ptrError (omega arith) (second-none _ _ z)));
       }
 

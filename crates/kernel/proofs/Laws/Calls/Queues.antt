@@ -29,7 +29,6 @@ use Rattle.kernel.specs.Sound.{Sound}
 use Rattle.kernel.proofs.Laws.Answers.{second-none, unless-none}
 use Rattle.kernel.specs.Kinds.{placeOf}
 use Rattle.kernel.specs.Kinds.Kind.{queue}
-use Rattle.kernel.specs.Sound.{Fit}
 use Rattle.kernel.specs.Edits.{Effect, statusBy, statusOf, recordBy, heldBy, frontb, endsb, movers, edited, applied, carriedOut}
 use Rattle.kernel.specs.Edits.Cause.{served}
 use Rattle.kernel.specs.Edits.Move.{ends}
@@ -38,12 +37,11 @@ use Rattle.kernel.specs.Roles.{oneOf, kindOf, mayMoveb, mayb}
 use Rattle.kernel.specs.Effects as Effect
 use Rattle.kernel.specs.Effects.{gives, does, begins, waitedb, Taker, Gives}
 use Rattle.kernel.proofs.Laws.Objects
-use Rattle.kernel.proofs.Laws.Held
+use Rattle.waiting.proofs.Laws.Held
 use Rattle.kernel.proofs.Laws.Fates
 use Rattle.kernel.proofs.Laws.Does
 use Rattle.kernel.proofs.Laws.Effects
 use Rattle.kernel.proofs.Laws.Uses
-
 use Rattle.objects.specs.declared.queue.Queue.{Queue}
 use Rattle.objects.specs.Queues.{emptyb, fullb, roomb, sizesFitb, leftPast, flushed, queueFitb}
 use Rattle.objects.proofs.Laws.Queues as Records
@@ -206,13 +204,13 @@ module _ (k : Kernel) (b c : ℕ) (messages : List ℕ) (caller : ℕ) where
         small = small n S made;
         fit = Records.past-fit q (fit n S made) made front message;
         free = λ t l w o. (let e = Effects.each-left (served queue n) noWords k F (f ∷ []) once was queue t w .1 in
-      let v = Objects.waits-here queue k F n t l (Fates.kept-waits k _ t 0 e 5 ∙ w) (Fates.kept-object k _ t 0 e ∙ o) in
-      let s = wait-sends (heldAt k t) q v some in
-      let bl = wait-sender (heldAt k t) q v s in
-      let full = and-left (fullb q) (blankFrom (q .words) (heldAt k t .message)) bl in
-      ap (λ (y : Held). queueWaitb y x) (e .held)
-      ∙ sender-waits (heldAt k t) x (a .0 ∙ made) s (Records.past-full q (fit n S made) made front message some full)
-      (ap (λ (m : ℕ). blankFrom m (heldAt k t .message)) (a .1) ∙ and-right (fullb q) (blankFrom (q .words) (heldAt k t .message)) bl));
+            let v = Objects.waits-here queue k F n t l (Fates.kept-waits k _ t 0 e 5 ∙ w) (Fates.kept-object k _ t 0 e ∙ o) in
+            let s = wait-sends (heldAt k t) q v some in
+            let bl = wait-sender (heldAt k t) q v s in
+            let full = and-left (fullb q) (blankFrom (q .words) (heldAt k t .message)) bl in
+            ap (λ (y : Held). queueWaitb y x) (e .held)
+            ∙ sender-waits (heldAt k t) x (a .0 ∙ made) s (Records.past-full q (fit n S made) made front message some full)
+            (ap (λ (m : ℕ). blankFrom m (heldAt k t .message)) (a .1) ∙ and-right (fullb q) (blankFrom (q .words) (heldAt k t .message)) bl));
       })
       (λ t. Effects.here n) (Effects.here n)
 
@@ -232,15 +230,15 @@ module _ (k : Kernel) (b c : ℕ) (messages : List ℕ) (caller : ℕ) where
         effect = Effect.receiveEffect k n wait;
         is = ap (guarded k _) (receive-is n wait);
         proper = λ S runs z. (let made = is-made n _ z in
-      let may = Effects.is-true _ Statuses.waitError _ (omega arith) (second-none _ _ z) in
-      let some = unless-none _ Statuses.queueEmpty (omega arith) (second-none _ _ (second-none _ _ z)) in
-      by-choice (Does.Proper k 26 n) (emptyb (queueAt k n)) _ _
-      (λ e. receives n wait S made e (Effects.waiter-runs k caller wait runs may (not (emptyb (queueAt k n))) some (ap not e)))
-      (λ e. by-choice (Does.Proper k 26 n) (waitedb k queue n) _ _
-      (λ q. past n _ S made e (Uses.first-waits queue k (S .fit) n q))
-      (λ q. Effects.proper-store k (S .fit) 26 n queue n _ _ (Uses.unwaited queue k (S .fit) n _ (small n S made) (Records.without-fit (queueAt k n) (fit n S made) made) q) (Effects.here n))));
+            let may = Effects.is-true _ Statuses.waitError _ (omega arith) (second-none _ _ z) in
+            let some = unless-none _ Statuses.queueEmpty (omega arith) (second-none _ _ (second-none _ _ z)) in
+            by-choice (Does.Proper k 26 n) (emptyb (queueAt k n)) _ _
+            (λ e. receives n wait S made e (Effects.waiter-runs k caller wait runs may (not (emptyb (queueAt k n))) some (ap not e)))
+            (λ e. by-choice (Does.Proper k 26 n) (waitedb k queue n) _ _
+            (λ q. past n _ S made e (Uses.first-waits queue k (S .fit) n q))
+            (λ q. Effects.proper-store k (S .fit) 26 n queue n _ _ (Uses.unwaited queue k (S .fit) n _ (small n S made) (Records.without-fit (queueAt k n) (fit n S made) made) q) (Effects.here n))));
         role = λ S z. Effects.take-role k 26 n b c messages _ refl refl refl refl
-      (record { served = λ a. never a refl; waits = λ a t T. rw (empty n S t T) refl });
+            (record { served = λ a. never a refl; waits = λ a t T. rw (empty n S t T) refl });
       }
 
   -- ---- 27
@@ -256,9 +254,9 @@ module _ (k : Kernel) (b c : ℕ) (messages : List ℕ) (caller : ℕ) where
         effect = Effect.flushEffect k n;
         is = ap (guarded k _) (Effects.either k (emptyb (queueAt k n)) _ _ _ _ refl (flush-is n));
         proper = λ S runs z. (let made = unless-none (queueAt k n .created) Statuses.queueError (omega arith) z in
-      by-choice (Does.Proper k 27 n) (emptyb (queueAt k n)) _ _
-      (λ e. Effects.proper-none k (S .fit) 27 n noWords)
-      (λ e. Uses.close-proper queue k (S .fit) n 27 n (served queue n) (flushed (queueAt k n)) (λ th p. p) (small n S made) (Records.flushed-fit (queueAt k n) (fit n S made) made) (λ t. Effects.here n) (Effects.here n)));
+            by-choice (Does.Proper k 27 n) (emptyb (queueAt k n)) _ _
+            (λ e. Effects.proper-none k (S .fit) 27 n noWords)
+            (λ e. Uses.close-proper queue k (S .fit) n 27 n (served queue n) (flushed (queueAt k n)) (λ th p. p) (small n S made) (Records.flushed-fit (queueAt k n) (fit n S made) made) (λ t. Effects.here n) (Effects.here n)));
         role = λ S z. record {
           creates = λ q. never q refl;
           takes = λ q. never q refl;

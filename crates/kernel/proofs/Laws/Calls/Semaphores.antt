@@ -23,7 +23,6 @@ use Rattle.kernel.specs.Waits.{endWait, startWait}
 use Rattle.kernel.specs.Sound.{Sound}
 use Rattle.kernel.proofs.Laws.Answers.{second-none, unless-none}
 use Rattle.kernel.specs.Kinds.Kind.{semaphore}
-use Rattle.kernel.specs.Sound.{Fit}
 use Rattle.kernel.specs.Edits.{Effect, statusBy, statusOf, recordBy, heldBy, frontb, endsb, movers, edited, applied, carriedOut}
 use Rattle.kernel.specs.Edits.Cause.{served}
 use Rattle.kernel.specs.Edits.Edit.{stores}
@@ -32,12 +31,11 @@ use Rattle.kernel.specs.Roles.{oneOf, kindOf, mayMoveb, mayb}
 use Rattle.kernel.specs.Effects as Effect
 use Rattle.kernel.specs.Effects.{does, begins, waitedb, Taker, Gives}
 use Rattle.kernel.proofs.Laws.Objects
-use Rattle.kernel.proofs.Laws.Held
+use Rattle.waiting.proofs.Laws.Held
 use Rattle.kernel.proofs.Laws.Fits
 use Rattle.kernel.proofs.Laws.Does
 use Rattle.kernel.proofs.Laws.Effects
 use Rattle.kernel.proofs.Laws.Uses
-
 use Rattle.objects.specs.Semaphores.{noSemaphore}
 use Rattle.kernel.specs.Semaphores as Calls
 
@@ -91,18 +89,18 @@ module _ (k : Kernel) (b c : ℕ) (messages : List ℕ) (caller : ℕ) where
         effect = Effect.semaphoreGetEffect k n wait;
         is = ap (guarded k (Refusals.semaphoreGetRefusal (semaphoreAt k n) wait caller)) (Effects.either k (ltb 0 (semaphoreAt k n .count)) _ _ _ _ refl refl);
         proper = λ S runs z. (let made = is-made n _ z in
-      let may = Effects.is-true _ Statuses.waitError _ (omega arith) (second-none _ _ z) in
-      let some = unless-none _ Statuses.noInstance (omega arith) (second-none _ _ (second-none _ _ z)) in
-      by-choice (Does.Proper k 18 n) (ltb 0 (semaphoreAt k n .count)) _ _
-      (λ q. Effects.proper-store k (S .fit) 18 n semaphore n _ noWords (taken n S made q) (Effects.here n))
-      (λ q. begins-wait n wait S made q (Effects.waiter-runs k caller wait runs may (ltb 0 (semaphoreAt k n .count)) some q)));
+            let may = Effects.is-true _ Statuses.waitError _ (omega arith) (second-none _ _ z) in
+            let some = unless-none _ Statuses.noInstance (omega arith) (second-none _ _ (second-none _ _ z)) in
+            by-choice (Does.Proper k 18 n) (ltb 0 (semaphoreAt k n .count)) _ _
+            (λ q. Effects.proper-store k (S .fit) 18 n semaphore n _ noWords (taken n S made q) (Effects.here n))
+            (λ q. begins-wait n wait S made q (Effects.waiter-runs k caller wait runs may (ltb 0 (semaphoreAt k n .count)) some q)));
         role = λ S z. Effects.take-role k 18 n b c messages _ refl refl refl refl
-      (record {
-        served = λ a. by-choice (λ (e : Effect). e .success ≡ done → (0 < semaphoreAt k n .count) × (e .edits ≡ stores semaphore n (Calls.counting (semaphoreAt k n .count - 1)) ∷ [])) (ltb 0 (semaphoreAt k n .count)) _ _
-            (λ q s. (ltb-true 0 (semaphoreAt k n .count) q, refl)) (λ q s. Does.waits-not-done s);
-        waits = λ a t T. (let none = count-none n S t T in
-            by-choice (λ (e : Effect). e .success ≡ waits) (ltb 0 (semaphoreAt k n .count)) _ _ (λ q. absurd (let l = ltb-true 0 (semaphoreAt k n .count) q in omega (arith, l, none))) (λ q. refl));
-      });
+            (record {
+              served = λ a. by-choice (λ (e : Effect). e .success ≡ done → (0 < semaphoreAt k n .count) × (e .edits ≡ stores semaphore n (Calls.counting (semaphoreAt k n .count - 1)) ∷ [])) (ltb 0 (semaphoreAt k n .count)) _ _
+                  (λ q s. (ltb-true 0 (semaphoreAt k n .count) q, refl)) (λ q s. Does.waits-not-done s);
+              waits = λ a t T. (let none = count-none n S t T in
+                  by-choice (λ (e : Effect). e .success ≡ waits) (ltb 0 (semaphoreAt k n .count)) _ _ (λ q. absurd (let l = ltb-true 0 (semaphoreAt k n .count) q in omega (arith, l, none))) (λ q. refl));
+            });
       }
 
   -- ---- 19 and 20

@@ -39,7 +39,7 @@ use Rattle.kernel.specs.Edits.Success.{done, lifted}
 use Rattle.kernel.specs.Roles.{oneOf, kindOf, mayMoveb, mayb, allb}
 use Rattle.kernel.specs.Effects as Effect
 use Rattle.kernel.specs.Effects.{keeps, clears, lowered, gives, does}
-use Rattle.kernel.proofs.Laws.Held
+use Rattle.waiting.proofs.Laws.Held
 use Rattle.kernel.proofs.Laws.Fits
 use Rattle.kernel.proofs.Laws.Lines
 use Rattle.kernel.proofs.Laws.Does
@@ -171,7 +171,7 @@ module _ (k : Kernel) (b c : ℕ) (messages : List ℕ) (caller : ℕ) where
   resume-does t =
       Effects.plain-does k b c messages caller 3 t _ refl (resumeRefusal (threadOf k t)) (Effect.resumeEffect k t)
       (ap (guarded k (resumeRefusal (threadOf k t)))
-            (Effects.either k (threadOf k t .suspending) _ _ _ _ refl (carries-kept k t (atRest 0) noWords)))
+      (Effects.either k (threadOf k t .suspending) _ _ _ _ refl (carries-kept k t (atRest 0) noWords)))
       (λ S runs z. by-choice (Does.Proper k 3 t) (threadOf k t .suspending) _ _
       (λ q. lifts t S (is-made t _ z))
       (λ q. rested k (S .fit) t (is-made t _ z) 3 t 0 (omega arith) (suspended-low (threadOf k t) q (unless-none _ Statuses.resumeError (omega arith) (second-none _ _ z)))))
@@ -182,8 +182,8 @@ module _ (k : Kernel) (b c : ℕ) (messages : List ℕ) (caller : ℕ) where
   suspend-does t =
       Effects.plain-does k b c messages caller 4 t _ refl (suspendRefusal (threadOf k t)) (Effect.suspendEffect k t)
       (ap (guarded k (suspendRefusal (threadOf k t)))
-            (Effects.either k (pausedb (threadOf k t)) _ _ _ _ refl
-            (Effects.either k (readyb (threadOf k t)) _ _ _ _ (carries-kept k t (atRest 3) noWords) refl)))
+      (Effects.either k (pausedb (threadOf k t)) _ _ _ _ refl
+      (Effects.either k (readyb (threadOf k t)) _ _ _ _ (carries-kept k t (atRest 3) noWords) refl)))
       (λ S runs z. by-choice (Does.Proper k 4 t) (pausedb (threadOf k t)) _ _
       (λ q. Effects.proper-alter k (S .fit) 4 t t (withSuspension true) noWords (suspension k (S .fit) t (is-made t _ z) true (λ w. q)) refl)
       (λ q. by-choice (Does.Proper k 4 t) (readyb (threadOf k t)) _ _

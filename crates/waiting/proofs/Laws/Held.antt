@@ -97,4 +97,3 @@ held-requesting request option known th made e =
 pub held-none : heldFitb uncreated noHeld ≡ true
 unfolding heldFitb statusFitb wordsFitb senderFitb sendsb requestFitb unheldFitb waitsOnb pausedb waitsb sleepsb uncreated holding implies blankFrom allBelow
 held-none = refl
-
