@@ -204,6 +204,10 @@ wait-created queue h x w = and-left (x .created) _ w
 wait-created group h x w = and-left (x .created) _ w
 wait-created pool h x w = and-left (x .created) _ w
 
+-- nobody may wait on one that is not
+pub none-waits : (d : Kind) (h : Held) → waitb d h (noObject d) ≡ false
+none-waits d h = by-test (waitb d h (noObject d)) (λ y. never (wait-created d h (noObject d) y) (none-created d)) (λ y. y)
+
 module _ (d : Kind) (k : Kernel) (F : Fit k) (n : ℕ) where
   -- it is in the table, and fit
   pub object-small : createdb d (objectAt d k n) ≡ true → n < sizeOf d

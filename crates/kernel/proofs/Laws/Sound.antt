@@ -4,22 +4,17 @@ use mathlib.Core.Bool.{Bool, true, false, _&&_, and-true, and-false}
 use Prim.Native.Nat.{ℕ, _+_, _≤_}
 use native.Mathlib.Omega.{arith}
 use lib.ListN.{length, List·getD-eq-default}
-use lib.Dec.{eqb}
-use borrow.Author.Tests.{eqb-true, ne-eqb}
+use borrow.Author.Tests.{eqb-true}
 use Rattle.lines.specs.Logic.{oneIf, implies, allBelow}
 use Rattle.lines.specs.Lists.{filter, count, below, first, firstWith, leastOf, firstOfKey, bestOf}
 use Rattle.lines.specs.Lines.{members, pad, lineOf, cleanb}
-use Rattle.lines.proofs.Laws.Logic.{and-left, and-right, and-in, implies-out, implies-in, all-at, all-in, all-more}
+use Rattle.lines.proofs.Laws.Logic.{by-test, never, and-left, and-right, and-in, implies-out, implies-in, all-at, all-in, all-more}
 use Rattle.scheduler.specs.declared.thread.Thread.{Thread}
 use Rattle.scheduler.specs.Threads.{onQueue, onSemaphore, onFlags, onBlock, uncreated, noThread, readyb, waitsb, sleepsb, pausedb, standsb}
 use Rattle.scheduler.specs.Orders as Orders
 use Rattle.scheduler.specs.Choice.{bestAmong, bestReady}
 use Rattle.scheduler.specs.Sound as Scheduling
 use Rattle.scheduler.proofs.Laws.Testing
-use Rattle.objects.specs.declared.semaphore.Semaphore.{Semaphore}
-use Rattle.objects.specs.declared.queue.Queue.{Queue}
-use Rattle.objects.specs.declared.group.Group.{Group}
-use Rattle.blocks.specs.declared.pool.Pool.{Pool}
 use Rattle.lines.specs.Slots.{zeroFrom}
 use Rattle.objects.specs.Semaphores.{noSemaphore, semaphoreFitb}
 use Rattle.objects.specs.Queues.{noQueue, queueZerob, queueFitb}
@@ -31,9 +26,12 @@ use Rattle.waiting.proofs.Laws.Fit.{waits-nowhere}
 use Rattle.kernel.specs.declared.Kernel.{Kernel}
 use Rattle.kernel.specs.Tables.{started, threadOf, heldAt, semaphoreAt, queueAt, groupAt, poolAt}
 use Rattle.waiting.specs.Fit.{blankFrom, waitsOnb, sendsb, statusFitb, wordsFitb, senderFitb, requestFitb, unheldFitb, heldFitb, semaphoreWaitb, queueWaitb, groupWaitb, poolWaitb, semaphoresFitb, queuesFitb, groupsFitb, poolsFitb}
-use Rattle.kernel.specs.Kinds.{Kind, stateOn, objectAt, waitb}
+use Rattle.kernel.specs.Kinds.{Kind, Object, stateOn, tableOf, objectAt, noObject, waitb}
 use Rattle.kernel.specs.Kinds.Kind.{semaphore, queue, group, pool}
-use Rattle.kernel.specs.Sound.{waitFitb, soundb, Objects, MayWait, Sound}
+use Rattle.kernel.proofs.Laws.Objects
+use Rattle.kernel.proofs.Laws.Fits
+use Rattle.kernel.specs.Sound.{waitFitb, soundb, MayWait, Sound}
+use Rattle.kernel.specs.Sound as Soundness
 
 -- ---- one thread more of a test of all
 pub one-more : (f : ℕ → Bool) (t : ℕ) (ok b : Bool) → ok ≡ allBelow t f → b ≡ f t → (ok && b) ≡ allBelow (t + 1) f
@@ -53,94 +51,8 @@ and-rest {b = b} e h = e ∙ ap (λ (x : Bool). x && b) h
 pub outside : {n m l : ℕ} → m ≤ n → l ≡ m → l ≤ n
 outside h e = omega arith
 
--- ---- who waits on one kind of object waits on no other
-other : (a b : ℕ) (th : Thread) → (a ≡ b → ⊥) → waitsOnb a th ≡ true → waitsOnb b th ≡ false
-unfolding waitsOnb
-other a b th n e =
-    let s = eqb-true (th .state) a (and-right (th .created) (eqb (th .state) a) e) in
-    ap (λ (x : Bool). th .created && x) (ne-eqb (th .state) b (λ q. n (sym s ∙ q))) ∙ and-false (th .created)
-
-module _ (k : Kernel) (t : ℕ) where
-  on-none :
-      waitsOnb onQueue (threadOf k t) ≡ false
-      → waitsOnb onSemaphore (threadOf k t) ≡ false
-      → waitsOnb onFlags (threadOf k t) ≡ false
-      → waitsOnb onBlock (threadOf k t) ≡ false
-      → waitFitb k t ≡ true
-  unfolding waitFitb implies
-  on-none a b c d = rw (a, b, c, d)
-
-  pub on-queue : waitsOnb onQueue (threadOf k t) ≡ true → waitFitb k t ≡ queueWaitb (heldAt k t) (queueAt k (threadOf k t .object))
-  unfolding waitFitb implies
-  on-queue e = rw (e, other 5 6 (threadOf k t) (λ q. omega arith) e, other 5 7 (threadOf k t) (λ q. omega arith) e, other 5 8 (threadOf k t) (λ q. omega arith) e) (simp and-true)
-
-  pub on-semaphore : waitsOnb onSemaphore (threadOf k t) ≡ true → waitFitb k t ≡ semaphoreWaitb (semaphoreAt k (threadOf k t .object))
-  unfolding waitFitb implies
-  on-semaphore e = rw (e, other 6 5 (threadOf k t) (λ q. omega arith) e, other 6 7 (threadOf k t) (λ q. omega arith) e, other 6 8 (threadOf k t) (λ q. omega arith) e) (simp and-true)
-
-  pub on-group : waitsOnb onFlags (threadOf k t) ≡ true → waitFitb k t ≡ groupWaitb (heldAt k t) (groupAt k (threadOf k t .object))
-  unfolding waitFitb implies
-  on-group e = rw (e, other 7 5 (threadOf k t) (λ q. omega arith) e, other 7 6 (threadOf k t) (λ q. omega arith) e, other 7 8 (threadOf k t) (λ q. omega arith) e) (simp and-true)
-
-  pub on-pool : waitsOnb onBlock (threadOf k t) ≡ true → waitFitb k t ≡ poolWaitb (poolAt k (threadOf k t .object))
-  unfolding waitFitb implies
-  on-pool e = rw (e, other 8 5 (threadOf k t) (λ q. omega arith) e, other 8 6 (threadOf k t) (λ q. omega arith) e, other 8 7 (threadOf k t) (λ q. omega arith) e)
-
--- ---- the same of a thread, its held things and its object as a loop reads them
-module _ (k : Kernel) (t : ℕ) (th : Thread) (e : th ≡ threadOf k t) where
-  abbrev on : ℕ → Bool → Type 0
-  on state b = waitsOnb state th ≡ b
-
-  abbrev kept : (state : ℕ) (b : Bool) → on state b → waitsOnb state (threadOf k t) ≡ b
-  kept state b w = sym (ap (waitsOnb state) e) ∙ w
-
-  pub waits-none : on onQueue false → on onSemaphore false → on onFlags false → on onBlock false → waitFitb k t ≡ true
-  waits-none a b c d = on-none k t (kept 5 false a) (kept 6 false b) (kept 7 false c) (kept 8 false d)
-
-  -- who neither waits nor sleeps
-  pub waits-rest : pausedb th ≡ false → waitFitb k t ≡ true
-  waits-rest p = waits-none (waits-nowhere 5 th (omega arith) p) (waits-nowhere 6 th (omega arith) p) (waits-nowhere 7 th (omega arith) p) (waits-nowhere 8 th (omega arith) p)
-
-  -- what such a thread holds, and what an uncreated one holds
-  pub resting-read : (h : Held) → h ≡ heldAt k t → (b : Bool)
-      → ((x : Thread) → x .created ≡ true → pausedb x ≡ false → b ≡ heldFitb x h) → th .created ≡ true → pausedb th ≡ false → b ≡ heldFitb (threadOf k t) (heldAt k t)
-  resting-read h d b f made p = f th made p ∙ ap₂ heldFitb e d
-
-  pub unheld-read : (h : Held) → h ≡ heldAt k t → (b : Bool)
-      → ((x : Thread) → x .created ≡ false → b ≡ heldFitb x h) → th .created ≡ false → b ≡ heldFitb (threadOf k t) (heldAt k t)
-  unheld-read h d b f u = f th u ∙ ap₂ heldFitb e d
-
-  pub waits-queue : (h : Held) (q : Queue) → h ≡ heldAt k t → q ≡ queueAt k (th .object) → on onQueue true → queueWaitb h q ≡ waitFitb k t
-  waits-queue h q x y w = ap₂ queueWaitb x (y ∙ ap (λ (r : Thread). queueAt k (r .object)) e) ∙ sym (on-queue k t (kept 5 true w))
-
-  pub waits-semaphore : (x : Semaphore) → x ≡ semaphoreAt k (th .object) → on onSemaphore true → semaphoreWaitb x ≡ waitFitb k t
-  waits-semaphore x y w = ap semaphoreWaitb (y ∙ ap (λ (r : Thread). semaphoreAt k (r .object)) e) ∙ sym (on-semaphore k t (kept 6 true w))
-
-  pub waits-group : (h : Held) (g : Group) → h ≡ heldAt k t → g ≡ groupAt k (th .object) → on onFlags true → groupWaitb h g ≡ waitFitb k t
-  waits-group h g x y w = ap₂ groupWaitb x (y ∙ ap (λ (r : Thread). groupAt k (r .object)) e) ∙ sym (on-group k t (kept 7 true w))
-
-  pub waits-pool : (p : Pool) → p ≡ poolAt k (th .object) → on onBlock true → poolWaitb p ≡ waitFitb k t
-  waits-pool p y w = ap poolWaitb (y ∙ ap (λ (r : Thread). poolAt k (r .object)) e) ∙ sym (on-pool k t (kept 8 true w))
-
-  -- past its table an object is not created
-  pub past-queues : length (k .queues) ≤ th .object → on onQueue true → waitFitb k t ≡ false
-  unfolding queueAt queueWaitb noQueue
-  past-queues o w = sym (waits-queue (heldAt k t) noQueue refl (sym (List·getD-eq-default (k .queues) noQueue o)) w)
-
-  pub past-semaphores : length (k .semaphores) ≤ th .object → on onSemaphore true → waitFitb k t ≡ false
-  unfolding semaphoreAt semaphoreWaitb noSemaphore
-  past-semaphores o w = sym (waits-semaphore noSemaphore (sym (List·getD-eq-default (k .semaphores) noSemaphore o)) w)
-
-  pub past-groups : length (k .groups) ≤ th .object → on onFlags true → waitFitb k t ≡ false
-  unfolding groupAt groupWaitb noGroup
-  past-groups o w = sym (waits-group (heldAt k t) noGroup refl (sym (List·getD-eq-default (k .groups) noGroup o)) w)
-
-  pub past-pools : length (k .pools) ≤ th .object → on onBlock true → waitFitb k t ≡ false
-  unfolding poolAt poolWaitb noPool
-  past-pools o w = sym (waits-pool noPool (sym (List·getD-eq-default (k .pools) noPool o)) w)
-
--- ---- the test and soundness
-by-kind : (P : Kind → Type 0) → P semaphore → P queue → P group → P pool → (d : Kind) → P d
+-- ---- kinds of objects
+pub by-kind : (P : Kind → Type 0) → P semaphore → P queue → P group → P pool → (d : Kind) → P d
 by-kind P s q g p semaphore = s
 by-kind P s q g p queue = q
 by-kind P s q g p group = g
@@ -172,6 +84,47 @@ module _ (k : Kernel) (t : ℕ) where
   unfolding waitFitb
   asks W = and-in (onQ && onS && onG) onP (and-in (onQ && onS) onG (and-in onQ onS (implies-in _ _ (W queue)) (implies-in _ _ (W semaphore))) (implies-in _ _ (W group))) (implies-in _ _ (W pool))
 
+  -- for one who waits on an object the test is that object's
+  on-kind : (d : Kind) → waitsOnb (stateOn d) (threadOf k t) ≡ true → waitFitb k t ≡ waitb d (heldAt k t) (objectAt d k (threadOf k t .object))
+  unfolding waitsOnb
+  on-kind d w =
+      let th = threadOf k t in
+      by-test (waitb d (heldAt k t) (objectAt d k (th .object)))
+      (λ y. asks (Fits.wait-on k th (heldAt k t) d (eqb-true (th .state) (stateOn d) (and-right (th .created) _ w)) y) ∙ sym y)
+      (λ y. by-test (waitFitb k t) (λ z. never (asked z d w) y) (λ z. z) ∙ sym y)
+
+-- ---- the same of a thread, its held things and its object as a loop reads them
+module _ (k : Kernel) (t : ℕ) (th : Thread) (e : th ≡ threadOf k t) where
+  abbrev on : ℕ → Bool → Type 0
+  on state b = waitsOnb state th ≡ b
+
+  abbrev kept : (state : ℕ) (b : Bool) → on state b → waitsOnb state (threadOf k t) ≡ b
+  kept state b w = sym (ap (waitsOnb state) e) ∙ w
+
+  pub waits-none : ((d : Kind) → on (stateOn d) false) → waitFitb k t ≡ true
+  waits-none h = asks k t (λ d w. never w (kept (stateOn d) false (h d)))
+
+  -- who neither waits nor sleeps
+  pub waits-rest : pausedb th ≡ false → waitFitb k t ≡ true
+  waits-rest p = waits-none (λ d. waits-nowhere (stateOn d) th (Objects.state-low d) p)
+
+  -- what such a thread holds, and what an uncreated one holds
+  pub resting-read : (h : Held) → h ≡ heldAt k t → (b : Bool)
+      → ((x : Thread) → x .created ≡ true → pausedb x ≡ false → b ≡ heldFitb x h) → th .created ≡ true → pausedb th ≡ false → b ≡ heldFitb (threadOf k t) (heldAt k t)
+  resting-read h d b f made p = f th made p ∙ ap₂ heldFitb e d
+
+  pub unheld-read : (h : Held) → h ≡ heldAt k t → (b : Bool)
+      → ((x : Thread) → x .created ≡ false → b ≡ heldFitb x h) → th .created ≡ false → b ≡ heldFitb (threadOf k t) (heldAt k t)
+  unheld-read h d b f u = f th u ∙ ap₂ heldFitb e d
+
+  pub waits-object : (d : Kind) (h : Held) (x : Object d) → h ≡ heldAt k t → x ≡ objectAt d k (th .object) → on (stateOn d) true → waitb d h x ≡ waitFitb k t
+  waits-object d h x p q w = ap₂ (waitb d) p (q ∙ ap (λ (r : Thread). objectAt d k (r .object)) e) ∙ sym (on-kind k t d (kept (stateOn d) true w))
+
+  -- past its table an object is not created
+  pub past-objects : (d : Kind) → length (tableOf d k) ≤ th .object → on (stateOn d) true → waitFitb k t ≡ false
+  past-objects d o w = sym (waits-object d (heldAt k t) (noObject d) refl (sym (Objects.object-is d k (th .object) ∙ List·getD-eq-default (tableOf d k) (noObject d) o)) w) ∙ Objects.none-waits d (heldAt k t)
+
+-- ---- the test and soundness
 module _ (k : Kernel) where
   abbrev heldTest : ℕ → Bool
   heldTest t = heldFitb (threadOf k t) (heldAt k t)
@@ -221,7 +174,7 @@ module _ (k : Kernel) where
       let w = and-left to-waits (allBelow 16 semaphoreTest) s in
       let h = and-left to-held (allBelow 32 (waitFitb k)) w in
       let t = Testing.tested (k .scheduler) zt (and-left (Scheduling.soundb (k .scheduler)) (allBelow 32 heldTest) h) in
-      let objects : (d : Kind) → Objects d k = by-kind (λ d. Objects d k)
+      let objects : (d : Kind) → Soundness.Objects d k = by-kind (λ d. Soundness.Objects d k)
       (record { sized = zs; fit = all-at 16 semaphoreTest (and-right to-waits (allBelow 16 semaphoreTest) s) })
       (record { sized = zq; fit = all-at 8 queueTest (and-right to-semaphores (allBelow 8 queueTest) q) })
       (record { sized = zg; fit = all-at 8 groupTest (and-right to-queues (allBelow 8 groupTest) g) })

@@ -20,9 +20,10 @@ use Rattle.calls.specs.Held.{noHeld}
 use Rattle.waiting.specs.Fit.{heldFitb, queuesFitb, poolsFitb}
 use Rattle.kernel.specs.declared.Kernel.{Kernel}
 use Rattle.kernel.specs.Tables.{threadOf, heldAt, semaphoreAt, queueAt, groupAt, poolAt}
+use Rattle.kernel.specs.Kinds.Kind.{semaphore, queue, group, pool}
 use Rattle.kernel.specs.Sound.{waitFitb, soundb}
 use Rattle.kernel.proofs.Laws.Reads.{read-inside, test-more}
-use Rattle.kernel.proofs.Laws.Sound.{waits-none, waits-rest, waits-queue, waits-semaphore, waits-group, waits-pool, past-queues, past-semaphores, past-groups, past-pools, outside, one-more, none-more, past-more, and-rest, resting-read, unheld-read}
+use Rattle.kernel.proofs.Laws.Sound.{by-kind, waits-none, waits-rest, waits-object, past-objects, outside, one-more, none-more, past-more, and-rest, resting-read, unheld-read}
 use Rattle.kernel.proofs.Kernel.is_sound.Statement.{statement}
 use Rattle.kernel.proofs.Kernel.is_sound.Tie as tie
 
@@ -126,13 +127,13 @@ is-sound-spec =
     let k = turn p in
     let q = read-inside (self k .queues) _ _ noQueue (c .before .before .if3 .taken) (sizes k .0) in
     let w = sym (c .before .before .before .before .waits-on .ensures) ∙ c .before .before .before .if2 .taken in
-    paused p (waiting k (c .queue-waits .ensures ∙ waits-queue (self k) (t k) _ (thread k _) _ _ (holds k _) q w)))
+    paused p (waiting k (c .queue-waits .ensures ∙ waits-object (self k) (t k) _ (thread k _) queue _ _ (holds k _) q w)))
     (λ c. search needs)
     (λ c.
     let p = c .before .before .before in
     let k = turn p in
     let w = sym (c .before .before .waits-on .ensures) ∙ c .before .if2 .taken in
-    paused p (past-more (waitFitb (self k)) (t k) (past-queues (self k) (t k) _ (thread k _) (outside (c .if3 .left) (sizes k .0)) w)))
+    paused p (past-more (waitFitb (self k)) (t k) (past-objects (self k) (t k) _ (thread k _) queue (outside (c .if3 .left) (sizes k .0)) w)))
     (λ c κs. search needs) (λ c. search needs) (λ c. search needs) (λ c κs. search needs) (λ c. search needs)
     -- on a semaphore
     (λ c.
@@ -140,13 +141,13 @@ is-sound-spec =
     let k = turn p in
     let q = read-inside (self k .semaphores) _ _ noSemaphore (c .before .before .if5 .taken) (sizes k .1) in
     let w = sym (c .before .before .before .before .waits-on2 .ensures) ∙ c .before .before .before .if4 .taken in
-    paused p (waiting k (c .semaphore-waits .ensures ∙ waits-semaphore (self k) (t k) _ (thread k _) _ q w)))
+    paused p (waiting k (c .semaphore-waits .ensures ∙ waits-object (self k) (t k) _ (thread k _) semaphore _ _ refl q w)))
     (λ c. search needs)
     (λ c.
     let p = c .before .before .before .before .before in
     let k = turn p in
     let w = sym (c .before .before .waits-on2 .ensures) ∙ c .before .if4 .taken in
-    paused p (past-more (waitFitb (self k)) (t k) (past-semaphores (self k) (t k) _ (thread k _) (outside (c .if5 .left) (sizes k .1)) w)))
+    paused p (past-more (waitFitb (self k)) (t k) (past-objects (self k) (t k) _ (thread k _) semaphore (outside (c .if5 .left) (sizes k .1)) w)))
     (λ c κs. search needs) (λ c. search needs) (λ c. search needs) (λ c κs. search needs) (λ c. search needs)
     -- on a group
     (λ c.
@@ -154,13 +155,13 @@ is-sound-spec =
     let k = turn p in
     let q = read-inside (self k .groups) _ _ noGroup (c .before .before .if7 .taken) (sizes k .2) in
     let w = sym (c .before .before .before .before .waits-on3 .ensures) ∙ c .before .before .before .if6 .taken in
-    paused p (waiting k (c .group-waits .ensures ∙ waits-group (self k) (t k) _ (thread k _) _ _ (holds k _) q w)))
+    paused p (waiting k (c .group-waits .ensures ∙ waits-object (self k) (t k) _ (thread k _) group _ _ (holds k _) q w)))
     (λ c. search needs)
     (λ c.
     let p = c .before .before .before .before .before .before .before in
     let k = turn p in
     let w = sym (c .before .before .waits-on3 .ensures) ∙ c .before .if6 .taken in
-    paused p (past-more (waitFitb (self k)) (t k) (past-groups (self k) (t k) _ (thread k _) (outside (c .if7 .left) (sizes k .2)) w)))
+    paused p (past-more (waitFitb (self k)) (t k) (past-objects (self k) (t k) _ (thread k _) group (outside (c .if7 .left) (sizes k .2)) w)))
     (λ c κs. search needs) (λ c. search needs) (λ c. search needs) (λ c κs. search needs) (λ c. search needs)
     -- on a pool
     (λ c.
@@ -168,13 +169,13 @@ is-sound-spec =
     let k = turn p in
     let q = read-inside (self k .pools) _ _ noPool (c .before .before .if9 .taken) (sizes k .3) in
     let w = sym (c .before .before .before .before .waits-on4 .ensures) ∙ c .before .before .before .if8 .taken in
-    paused p (waiting k (c .pool-waits .ensures ∙ waits-pool (self k) (t k) _ (thread k _) _ q w)))
+    paused p (waiting k (c .pool-waits .ensures ∙ waits-object (self k) (t k) _ (thread k _) pool _ _ refl q w)))
     (λ c. search needs)
     (λ c.
     let p = c .before .before .before .before .before .before .before .before .before in
     let k = turn p in
     let w = sym (c .before .before .waits-on4 .ensures) ∙ c .before .if8 .taken in
-    paused p (past-more (waitFitb (self k)) (t k) (past-pools (self k) (t k) _ (thread k _) (outside (c .if9 .left) (sizes k .3)) w)))
+    paused p (past-more (waitFitb (self k)) (t k) (past-objects (self k) (t k) _ (thread k _) pool (outside (c .if9 .left) (sizes k .3)) w)))
     (λ c. search needs)
     -- it sleeps
     (λ c.
@@ -184,7 +185,7 @@ is-sound-spec =
     let s = sym (c .before .before .before .before .before .waits-on2 .ensures) ∙ c .before .before .before .before .if4 .left in
     let g = sym (c .before .before .before .waits-on3 .ensures) ∙ c .before .before .if6 .left in
     let b = sym (c .before .waits-on4 .ensures) ∙ c .if8 .left in
-    paused p (resting k (waits-none (self k) (t k) _ (thread k _) q s g b)))
+    paused p (resting k (waits-none (self k) (t k) _ (thread k _) (by-kind _ s q g b))))
     (λ c. search needs) (λ c. search needs) (λ c κs. search needs) (λ c. search needs) (λ c. search needs)
     -- it neither waits nor sleeps; it is not created
     (λ c.
