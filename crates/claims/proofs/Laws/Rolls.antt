@@ -39,7 +39,7 @@ use Rattle.kernel.specs.Roles.{rowOf, oneOf, limitOf, mayMoveb, mayb, allb}
 use Rattle.kernel.specs.Effects.{does, terminateEffect, abortEffect, rolledb, Taker, Role, givenWords}
 use Rattle.kernel.proofs.Laws.Objects
 use Rattle.kernel.proofs.Laws.Fits
-use Rattle.kernel.proofs.Laws.Held
+use Rattle.waiting.proofs.Laws.Held
 use Rattle.kernel.proofs.Laws.Lines
 use Rattle.kernel.proofs.Laws.Does.{Shape, Proper, Step, refuses, carries}
 use Rattle.claims.specs.Lists.{Made, answer, next}
@@ -71,7 +71,7 @@ module _ (d : Kind) (o : rolledb d ≡ true) (n t : ℕ) (k : Kernel) (r : List 
 
   -- a member waits there
   placed : (u : ℕ) → 0 < count u (names r) → placedb p (threadOf k u) ≡ true
-  placed u c = Serving.placed-in p k F u (Members.member p k r (L .rolls) u c)
+  placed u c = Fits.line-placed (k .scheduler) (F .steady) p u (Members.member p k r (L .rolls) u c)
 
   small : (u : ℕ) → 0 < count u (names r) → u < 32
   small u c = States.created-small (k .scheduler) (F .steady) u (Fits.placed-made p (threadOf k u) (placed u c))
@@ -83,7 +83,7 @@ module _ (d : Kind) (o : rolledb d ≡ true) (n t : ℕ) (k : Kernel) (r : List 
   low =
       let y = placed t (L .stands) in
       Objects.object-small d k F n
-      (Objects.waits-created d k F n t (small t (L .stands)) (Held.in-state (stateOn d) (threadOf k t) (Fits.placed-made p (threadOf k t) y) (Fits.placed-state p (threadOf k t) y)) (Serving.placed-object p waiters (threadOf k t) y))
+      (Objects.waits-created d k F n t (small t (L .stands)) (Held.in-state (stateOn d) (threadOf k t) (Fits.placed-made p (threadOf k t) y) (Fits.placed-state p (threadOf k t) y)) (Fits.placed-object p waiters (threadOf k t) y))
 
   not-member : (u : ℕ) → (0 < count u (names r) → ⊥) → without u (names r) ≡ names r
   not-member u f = Lists.without-none u (names r) (by-eq (count u (names r)) 0 (λ q. q) (λ q. absurd (f (omega (arith, q)))))
@@ -178,7 +178,7 @@ module _ (d : Kind) (o : rolledb d ≡ true) (n t : ℕ) (k : Kernel) (r : List 
         let number = eqb-true (m .number) 25 (and-left (eqb (m .number) 25) (eqb state onQueue) send) in
         let same = eqb-true state onQueue (and-right (eqb (m .number) 25) (eqb state onQueue) send) in
         let there = eqb-true object (target m) (and-right (eqb (m .number) 25 && eqb state onQueue) (eqb object (target m)) y) in
-        Serving.target-on d n low m (rowOf d .gives) (Serving.own-row d .1) (sym there ∙ Serving.placed-object p waiters _ a)
+        Serving.target-on d n low m (rowOf d .gives) (Serving.own-row d .1) (sym there ∙ Fits.placed-object p waiters _ a)
         (ap (λ (c : Kind). oneOf (m .number) (rowOf c .gives)) (Objects.same-kind d Kind.queue (sym (Fits.placed-state p _ a) ∙ same)) ∙ ap (λ (i : ℕ). oneOf i (rowOf Kind.queue .gives)) number)
 
     starts-passes : (v : ℕ) (w : Move) → startsb w ≡ true → es ≡ moves v w ∷ [] → e .success ≡ waits → Members.Passes p k x r r
@@ -282,7 +282,7 @@ start d n k S ahead t W =
     let p = placeOf d n in
     let F = S .fit in
     let c = Members.stands-last ahead t in
-    let y = Serving.placed-in p k F t (let b = Lists.begins-count xs (lineAt (k .scheduler) p) (W .line) t in omega (arith, b, c)) in
+    let y = Fits.line-placed (k .scheduler) (F .steady) p t (let b = Lists.begins-count xs (lineAt (k .scheduler) p) (W .line) t in omega (arith, b, c)) in
     let small = States.created-small (k .scheduler) (F .steady) t (Fits.placed-made p (threadOf k t) y) in
     record {
       sound = S;

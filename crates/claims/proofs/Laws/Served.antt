@@ -105,18 +105,6 @@ apartb p (sets c) = true
 
 -- ---- waiters
 module _ (p : Place) (waiters : 4 < p .state) where
-  number-seen : (th : Thread) → (th .state ≡ 0 → ⊥) → placedb p (Fits.seen th) ≡ placedb p th
-  unfolding placedb standsb readyb waitsb numberOf Fits.seen
-  number-seen th z = rw (ne-eqb (th .state) 0 z) refl
-
-  -- where a waiter stands is what the tests of soundness read
-  pub placed-seen : (th y : Thread) → Fits.seen y ≡ Fits.seen th → placedb p th ≡ true → placedb p y ≡ true
-  unfolding Fits.seen
-  placed-seen th y e w =
-      let s = Fits.placed-state p th w in
-      let q = ap (λ (x : Thread). x .state) e in
-      sym (number-seen y (λ z. omega (arith, s, q, z, waiters))) ∙ ap (placedb p) e ∙ number-seen th (λ z. omega (arith, s, z, waiters)) ∙ w
-
   -- who stands there and moves is served by that object or not at all
   moved-served : (x : Kernel) (u : ℕ) (m : Move) (th : Thread) (h : Held) → placedb p th ≡ true → Fits.Was m th → heldAt x u ≡ heldBy m th h → Fits.seen (threadOf x u) ≡ Fits.seen (recordBy m th)
       → servedb x u ≡ not (apartb p (moves u m))
@@ -143,9 +131,8 @@ module _ (d : Kind) (n : ℕ) (k : Kernel) (F : Fit k) where
   abbrev line : List ℕ
   line = lineAt (k .scheduler) p
 
-  here : (u : ℕ) → 0 < count u line → placedb p (threadOf k u) ≡ true
-  unfolding oneIf
-  here u c = by-test (placedb p (threadOf k u)) (λ e. e) (λ e. absurd (let z = Orders.line-count (k .scheduler) (F .steady) u p ∙ ap oneIf e in omega (arith, c, z)))
+  abbrev here : (u : ℕ) → 0 < count u line → placedb p (threadOf k u) ≡ true
+  here = Fits.line-placed (k .scheduler) (F .steady) p
 
   held-fit : (u : ℕ) → placedb p (threadOf k u) ≡ true → heldFitb (threadOf k u) (heldAt k u) ≡ true
   held-fit u w = F .held u (States.created-small (k .scheduler) (F .steady) u (Fits.placed-made p (threadOf k u) w))
@@ -190,7 +177,7 @@ module _ (d : Kind) (n : ℕ) (k : Kernel) (F : Fit k) where
     mover-served u w W =
         let K = Does.chosen-kept k number a e P u in
         moved-served p (Objects.state-low d) x u (W .move) (threadOf (W .at) u) (heldAt (W .at) u)
-        (placed-seen p (Objects.state-low d) (threadOf k u) (threadOf (W .at) u) (W .kept .seen) w) (W .was) (K .held ∙ W .held) (K .seen ∙ W .seen)
+        (sym (Fits.placed-seen p (Objects.state-low d) _) ∙ ap (placedb p) (W .kept .seen) ∙ Fits.placed-seen p (Objects.state-low d) _ ∙ w) (W .was) (K .held ∙ W .held) (K .seen ∙ W .seen)
 
     -- the only edit stores, or none serves anybody there
     pub later-stored : (y : Object d) → e .edits ≡ stores d n y ∷ [] → later d n k x ≡ 0

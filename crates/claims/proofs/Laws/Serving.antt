@@ -39,11 +39,6 @@ use Rattle.claims.specs.Rolls.{onb, givesb, takesb, upsetsb}
 use Rattle.claims.proofs.Laws.Steps.{target}
 use Rattle.claims.proofs.Laws.Members
 
--- who stands in the line
-pub placed-in : (p : Place) (k : Kernel) → Fit k → (u : ℕ) → 0 < count u (lineAt (k .scheduler) p) → placedb p (threadOf k u) ≡ true
-unfolding oneIf
-placed-in p k F u c = by-test (placedb p (threadOf k u)) (λ y. y) (λ y. absurd (let z = Orders.line-count (k .scheduler) (F .steady) u p ∙ ap oneIf y in omega (arith, c, z)))
-
 -- ---- edits
 -- where no edit for which f holds moves so or counts, nobody does
 none-move : (c : Move → Bool) (f : Edit → Bool) → ((t : ℕ) (m : Move) → f (moves t m) ≡ true → c m ≡ false) → ((t : ℕ) → f (counts t) ≡ true → ⊥)
@@ -67,18 +62,6 @@ all-from f g h (e ∷ es) a = and-in (g e) (allb g es) (h e (and-left (f e) (all
 
 -- ---- the line of waiters after a call that is carried out
 module _ (p : Place) (waiters : 4 < p .state) where
-  pub placed-object : (th : Thread) → placedb p th ≡ true → th .object ≡ p .number
-  unfolding placedb numberOf
-  placed-object th e =
-      let state = Fits.placed-state p th e in
-      sym (ap (λ (b : Bool). if b then th .priority else th .object) (ne-eqb (th .state) 0 (λ z. omega (arith, z, state, waiters))))
-      ∙ eqb-true (numberOf th) (p .number) (and-right (standsb th && eqb (th .state) (p .state)) (eqb (numberOf th) (p .number)) e)
-
-  -- where a thread waits is told by its state and object alone
-  placed-seen : (th : Thread) → placedb p (Fits.seen th) ≡ placedb p th
-  unfolding placedb standsb readyb waitsb numberOf Fits.seen
-  placed-seen th = by-eq (th .state) 0 (λ z. rw (ne-eqb (th .state) (p .state) (λ q. omega (arith, z, q, waiters)), and-false)) (λ z. rw (ne-eqb (th .state) 0 z))
-
   -- who stands there and does not leave is not moved
   unmoved : (k : Kernel) (e : Edit) → Fits.Firm k e → (u : ℕ) → placedb p (threadOf k u) ≡ true → count u (movers (leavesb p) (e ∷ [])) ≡ 0 → count u (movers anyb (e ∷ [])) ≡ 0
   unfolding movers
@@ -102,7 +85,7 @@ module _ (p : Place) (waiters : 4 < p .state) where
       let a = Fates.kept-all k S (e ∷ []) (G .0, tt) u (unmoved k e (G .0) u h (omega (arith, c, z))) in
       rw (ap (count u) (Members.counted-append (e ∷ []) es) ∙ Lists.count-append u (counted (e ∷ [])) (counted es))
       (Fates.kept-then k (edited k e) y u _ _ a
-      (kept-all (edited k e) y (Fits.steady-edit k S e (G .0)) es (G .1) u C (sym (placed-seen _) ∙ ap (placedb p) (a .seen) ∙ placed-seen _ ∙ h) (omega (arith, c, z))))
+      (kept-all (edited k e) y (Fits.steady-edit k S e (G .0)) es (G .1) u C (sym (Fits.placed-seen p waiters _) ∙ ap (placedb p) (a .seen) ∙ Fits.placed-seen p waiters _ ∙ h) (omega (arith, c, z))))
 
   module _ (k : Kernel) (F : Fit k) (n a : ℕ) (e : Effect) (P : Does.Proper k n a e) where
     abbrev es : List Edit
@@ -112,7 +95,7 @@ module _ (p : Place) (waiters : 4 < p .state) where
     x = carriedOut k e .kernel
 
     kept : (u : ℕ) → 0 < count u (lineAt (k .scheduler) p) → count u (movers (leavesb p) es) ≡ 0 → Fates.Kept k x u (count u (counted es))
-    kept u c z = kept-all k x (F .steady) es (P .firm) u (Does.chosen-kept k n a e P u) (placed-in p k F u c) z
+    kept u c z = kept-all k x (F .steady) es (P .firm) u (Does.chosen-kept k n a e P u) (Fits.line-placed (k .scheduler) (F .steady) p u c) z
 
     -- nobody begins to wait, and the line is not ranked
     pub leaves-done : allb Lines.unstartedb es ≡ true → allb (Lines.unrankedb p) es ≡ true → Members.Leaves p k x (movers (leavesb p) es) (counted es)

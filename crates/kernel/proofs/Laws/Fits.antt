@@ -1,21 +1,22 @@
 -- What is asked of an edit, and that tables which are sound but for the runner stay so by every edit of which it holds.
 use mathlib.Core.Path.{_≡_, refl, sym, ap, _∙_, subst}
 use mathlib.Core.List.{List, [], _∷_}
-use mathlib.Core.Bool.{Bool, true, false, _&&_, not}
+use mathlib.Core.Bool.{Bool, true, false, _&&_, not, and-false}
 use Prim.Native.Nat.{ℕ, _<_, _-_}
 use Prim.{Unit, tt}
 use native.Mathlib.Omega.{arith}
 use lib.ListN.{length, length-set}
 use lib.Seq.{getD-set-same, getD-set-other}
 use lib.Dec.{eqb, ltb}
-use borrow.Author.Tests.{eqb-true, lt-ltb, ltb-false}
-use Rattle.lines.specs.Logic.{implies}
+use borrow.Author.Tests.{eqb-true, lt-ltb, ltb-false, ne-eqb}
+use Rattle.lines.specs.Logic.{if_then_else_, oneIf, implies}
+use Rattle.lines.specs.Lists.{count}
 use Rattle.lines.proofs.Laws.Logic.{by-test, by-eq, by-choice, never, and-left, and-right, and-in, or-left, implies-in}
 use Rattle.scheduler.specs.declared.thread.Thread.{Thread}
 use Rattle.scheduler.specs.declared.thread.Place.{Place}
 use Rattle.scheduler.specs.declared.Scheduler.{Scheduler}
 use Rattle.scheduler.specs.Threads.{readyb, sleepsb, waitsb, pausedb, standsb, placedb, numberOf, awake, inState, atRest}
-use Rattle.scheduler.specs.Orders.{threadAt, joined, withThread, withOrder, prioritisedAt}
+use Rattle.scheduler.specs.Orders.{threadAt, joined, withThread, withOrder, prioritisedAt, lineAt}
 use Rattle.scheduler.specs.Choice.{withMark, rescheduled}
 use Rattle.scheduler.specs.Sound.{limitsb, markFitb, suspensionFitb, ticksFitb, objectFitb, fitb, Steady}
 use Rattle.scheduler.proofs.Laws.Threads.{fit-parts, fit-from}
@@ -202,6 +203,25 @@ placed-made p th e = by-test (th .created) (λ c. c) (λ c. never e (rw c))
 pub placed-paused : (p : Place) → 4 < p .state → (th : Thread) → placedb p th ≡ true → pausedb th ≡ true
 placed-paused p w th e = let z = placed-state p th e in States.paused-in th (placed-made p th e) (omega (arith, z, w))
 
+module _ (p : Place) (waiters : 4 < p .state) where
+  -- on which object it waits
+  pub placed-object : (th : Thread) → placedb p th ≡ true → th .object ≡ p .number
+  unfolding placedb numberOf
+  placed-object th e =
+      let state = placed-state p th e in
+      sym (ap (λ (b : Bool). if b then th .priority else th .object) (ne-eqb (th .state) 0 (λ z. omega (arith, z, state, waiters))))
+      ∙ eqb-true (numberOf th) (p .number) (and-right (standsb th && eqb (th .state) (p .state)) (eqb (numberOf th) (p .number)) e)
+
+  -- where it waits is told by its state and object alone
+  pub placed-seen : (th : Thread) → placedb p (seen th) ≡ placedb p th
+  unfolding placedb standsb readyb waitsb numberOf seen
+  placed-seen th = by-eq (th .state) 0 (λ z. rw (ne-eqb (th .state) (p .state) (λ q. omega (arith, z, q, waiters)), and-false)) (λ z. rw (ne-eqb (th .state) 0 z))
+
+-- who stands in a line
+pub line-placed : (s : Scheduler) → Steady s → (p : Place) (u : ℕ) → 0 < count u (lineAt s p) → placedb p (threadAt s u) ≡ true
+unfolding oneIf
+line-placed s S p u c = by-test (placedb p (threadAt s u)) (λ y. y) (λ y. absurd (let z = Orders.line-count s S u p ∙ ap oneIf y in omega (arith, c, z)))
+
 pub ends-paused : (c : Cause) (words : List ℕ) (th : Thread) → Was (ends c words) th → pausedb th ≡ true
 ends-paused (served d n) words th w = placed-paused (placeOf d n) (Objects.state-low d) th w
 ends-paused (deleted d n) words th w = placed-paused (placeOf d n) (Objects.state-low d) th w
@@ -272,10 +292,10 @@ module _ (k : Kernel) (F : Fit k) (t : ℕ) (m : Move) (G : Moved k t m) where
 
   moved-all : (P : Thread → Held → Type 0) → P th h → ((u : ℕ) → u < 32 → P (threadOf k u) (heldAt k u)) → (u : ℕ) → u < 32 → P (threadOf x u) (heldAt x u)
   unfolding edited withHeld withScheduler heldAt
-  moved-all P now then u l =
+  moved-all P new old u l =
       by-eq u t
-      (λ e. rw (e, joined-self (k .scheduler) (F .steady) (frontb m) t th (G .small), getD-set-same (k .held) t h noHeld (let z = F .heldSized in let y = G .small in omega (arith, z, y))) now)
-      (λ e. rw (joined-other (k .scheduler) (F .steady) (frontb m) t th (G .small) u e, getD-set-other (k .held) t u h noHeld e) (then u l))
+      (λ e. rw (e, joined-self (k .scheduler) (F .steady) (frontb m) t th (G .small), getD-set-same (k .held) t h noHeld (let z = F .heldSized in let y = G .small in omega (arith, z, y))) new)
+      (λ e. rw (joined-other (k .scheduler) (F .steady) (frontb m) t th (G .small) u e, getD-set-other (k .held) t u h noHeld e) (old u l))
 
   table-moved : (d : Kind) → tableOf d x ≡ tableOf d k
   unfolding edited

@@ -56,10 +56,6 @@ module _ (d : Kind) (k : Kernel) (F : Fit k) (i : ℕ) where
       let low = Objects.state-low d in
       rw (made, e, ne-eqb (stateOn d) 0 (λ q. omega (arith, q, low)), lt-ltb 4 (stateOn d) low, eq-eqb (stateOn d) (stateOn d) refl) (eq-eqb (th .object) i o)
 
-  pub line-placed : (u : ℕ) → 0 < count u line → placedb (placeOf d i) (threadOf k u) ≡ true
-  unfolding oneIf
-  line-placed u c = by-test (placedb (placeOf d i) (threadOf k u)) (λ y. y) (λ y. absurd (let z = Orders.line-count (k .scheduler) (F .steady) u (placeOf d i) ∙ ap oneIf y in omega (arith, c, z)))
-
   -- who does not stand in the line does not wait there
   pub line-others : {P : Type 0} (u : ℕ) → count u line ≡ 0 → waitsOnb (stateOn d) (threadOf k u) ≡ true → threadOf k u .object ≡ i → P
   unfolding oneIf
@@ -82,9 +78,7 @@ module _ (d : Kind) (k : Kernel) (F : Fit k) (i : ℕ) where
       let low = Objects.state-low d in
       let made = Fits.placed-made (placeOf d i) th p in
       let state = Fits.placed-state (placeOf d i) th p in
-      let number = eqb-true (numberOf th) i (and-right (standsb th && eqb (th .state) (stateOn d)) _ p) in
-      let object : th .object ≡ i = rw (ne-eqb (th .state) 0 (λ z. omega (arith, z, state, low))) at number in
-      Objects.waits-here d k F i t (States.created-small (k .scheduler) (F .steady) t made) (and-in (th .created) _ made (eq-eqb (th .state) (stateOn d) state)) object
+      Objects.waits-here d k F i t (States.created-small (k .scheduler) (F .steady) t made) (and-in (th .created) _ made (eq-eqb (th .state) (stateOn d) state)) (Fits.placed-object (placeOf d i) (Objects.state-low d) th p)
 
   -- who is first waits there
   pub first-waits : waitedb k d i ≡ true → placedb (placeOf d i) (threadOf k first) ≡ true
@@ -114,7 +108,7 @@ module _ (d : Kind) (k : Kernel) (F : Fit k) (i : ℕ) where
   unfolding closeEffect
   close-proper n a c x was small fit m s =
       let once : (u : ℕ) → _ = λ u. Orders.line-once (k .scheduler) (F .steady) u (placeOf d i) in
-      let wait : (u : ℕ) → 0 < count u line → Fits.Was (ends c noWords) (threadOf k u) = λ u q. was (threadOf k u) (line-placed u q) in
+      let wait : (u : ℕ) → 0 < count u line → Fits.Was (ends c noWords) (threadOf k u) = λ u q. was (threadOf k u) (Fits.line-placed (k .scheduler) (F .steady) (placeOf d i) u q) in
       Effects.proper-each c noWords k F line once wait n a d i x noWords
       (record {
         small = small;

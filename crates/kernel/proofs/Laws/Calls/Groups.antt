@@ -101,7 +101,7 @@ module _ (k : Kernel) (b c : ℕ) (messages : List ℕ) (caller : ℕ) where
       let woken = filter met line in
       let left = lessFlags flags (Calls.clearsBy k n flags) in
       let once : (u : ℕ) → count u woken ≤ 1 = λ u. (let p = Lists.count-part met u line in let o = Orders.line-once (k .scheduler) (F .steady) u (placeOf group n) in omega (arith, p, o)) in
-      let was : (u : ℕ) → 0 < count u woken → placedb (placeOf group n) (threadOf k u) ≡ true = λ u l. Uses.line-placed group k F n u (let p = Lists.count-part met u line in omega (arith, p, l)) in
+      let was : (u : ℕ) → 0 < count u woken → placedb (placeOf group n) (threadOf k u) ≡ true = λ u l. Fits.line-placed (k .scheduler) (F .steady) (placeOf group n) u (let p = Lists.count-part met u line in omega (arith, p, l)) in
       Effects.proper-each (served group n) (oneWord flags) k F woken once was 31 n group n (groupWith left) noWords
       (record {
         small = small n S made;
