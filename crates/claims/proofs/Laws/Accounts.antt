@@ -15,14 +15,14 @@ use Rattle.kernel.specs.Semaphores.{counting}
 use Rattle.kernel.specs.Waits.{oneMore}
 use Rattle.kernel.specs.Sound.{Sound}
 use Rattle.kernel.specs.Kinds.Kind.{semaphore, pool}
-use Rattle.kernel.specs.Roles.{oneOf, kindOf, limitOf}
+use Rattle.kernel.specs.Roles.{oneOf}
 use Rattle.kernel.proofs.Laws.Objects
 use Rattle.claims.specs.Lists.{Made, answer, next, after}
 use Rattle.claims.specs.Rolls.{doneb, gave}
 use Rattle.claims.specs.Accounts.{servedLater, served, Undeleted, SemaphoreAccount, PoolAccount, Accounts}
 use Rattle.claims.proofs.Laws.Steps.{next-sound, made-step}
 use Rattle.claims.proofs.Laws.Served.{later}
-use Rattle.claims.proofs.Laws.Entries.{Entry, even, less, more, gives, takes, Named, step-entry, new-object}
+use Rattle.claims.proofs.Laws.Entries.{Entry, even, less, more, gives, takes, step-entry, new-object}
 
 -- ---- what one call makes of a count
 record Counted (n : ℕ) (k : Kernel) (m : Made) (status : ℕ) (x : Kernel) : Type 0 where
@@ -99,17 +99,17 @@ pool-from n (m ∷ ms) k S made slots u =
 -- ---- since creation
 module _ (k : Kernel) (S : Sound k) (m : Made) where
   semaphore-since : m .number ≡ 16 → m .b < 4294967296 → doneb (answer k m) ≡ true → (ms : List Made) → Undeleted semaphore (m .a) (next k m) ms → SemaphoreAccount (m .a) (m .b) (next k m) ms
-  unfolding counting kindOf limitOf oneOf
+  unfolding counting oneOf
   semaphore-since n low done ms u =
-      let e = new-object k S m (made-step k S m) semaphore (subst (Named semaphore) (sym n) (refl, refl)) (subst (λ (i : ℕ). oneOf i (16 ∷ []) ≡ true) (sym n) refl) done in
+      let e = new-object k S m (made-step k S m) semaphore (subst (λ (i : ℕ). oneOf i (16 ∷ []) ≡ true) (sym n) refl) done in
       let c : semaphoreAt (next k m) (m .a) .count ≡ m .b = ap (λ (y : Semaphore). y .count) e in
       subst (λ (b : ℕ). SemaphoreAccount (m .a) b (next k m) ms) c
       (semaphore-from (m .a) ms (next k m) (next-sound k S m) (ap (λ (y : Semaphore). y .created) e) (omega (arith, c, low)) u)
 
   module _ (n : m .number ≡ 33) (done : doneb (answer k m) ≡ true) where
     fresh : poolAt (next k m) (m .a) ≡ freshPool (m .b) (m .c)
-    unfolding kindOf limitOf oneOf
-    fresh = new-object k S m (made-step k S m) pool (subst (Named pool) (sym n) (refl, refl)) (subst (λ (i : ℕ). oneOf i (33 ∷ []) ≡ true) (sym n) refl) done
+    unfolding oneOf
+    fresh = new-object k S m (made-step k S m) pool (subst (λ (i : ℕ). oneOf i (33 ∷ []) ≡ true) (sym n) refl) done
 
     pool-since : (ms : List Made) → Undeleted pool (m .a) (next k m) ms → PoolAccount (m .a) (blocksOf (poolAt (next k m) (m .a))) (next k m) ms
     unfolding freshPool listing

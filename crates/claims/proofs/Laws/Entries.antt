@@ -1,14 +1,13 @@
 -- What one call enters in the account of a semaphore or pool.
 use mathlib.Core.Path.{_≡_, refl, sym, ap, _∙_, subst}
 use mathlib.Core.List.{List, [], _∷_}
-use mathlib.Core.Bool.{Bool, true, false, _&&_, _||_, not}
+use mathlib.Core.Bool.{and-false, Bool, true, false, _&&_, not}
 use Prim.Native.Nat.{ℕ, _+_, _<_}
-use Prim.{Unit, tt}
 use native.Mathlib.Omega.{arith}
 use lib.Dec.{eqb}
-use borrow.Author.Tests.{eqb-true, eq-eqb, ltb-true}
+use borrow.Author.Tests.{eqb-true, ltb-true}
 use Rattle.lines.specs.Logic.{oneIf}
-use Rattle.lines.proofs.Laws.Logic.{by-test, never, and-left, and-right, and-in, or-left, or-right, or-rest}
+use Rattle.lines.proofs.Laws.Logic.{by-test, never, and-left, and-right, and-in}
 use Rattle.scheduler.specs.declared.thread.Place.{Place}
 use Rattle.scheduler.specs.Orders.{firstAt}
 use Rattle.scheduler.proofs.Laws.Fairness.{first-placed}
@@ -24,7 +23,7 @@ use Rattle.kernel.specs.Edits.Cause.{served, deleted, timedOut, aborted}
 use Rattle.kernel.specs.Edits.Move.{ends, starts, stops, turns}
 use Rattle.kernel.specs.Edits.Edit.{moves, alters, counts, ranks, stores, sets}
 use Rattle.kernel.specs.Edits.Success.{done, lifted, waits}
-use Rattle.kernel.specs.Roles.{rowOf, oneOf, kindOf, limitOf, mayMoveb, mayb, allb}
+use Rattle.kernel.specs.Roles.{rowOf, oneOf, mayMoveb, mayb, allb}
 use Rattle.kernel.specs.Effects.{waitedb, rolledb, countedb, newOf, amountOf, oneLess, oneGiven, mayGiveb, Role}
 use Rattle.kernel.proofs.Laws.Objects
 use Rattle.kernel.proofs.Laws.Lines
@@ -33,81 +32,28 @@ use Rattle.claims.specs.Lists.{Made, answer, next}
 use Rattle.claims.specs.Rolls.{onb, givesb, takesb, doneb}
 use Rattle.claims.specs.Accounts.{deletesb}
 use Rattle.claims.proofs.Laws.Steps.{stepped, target, answer-is}
+use Rattle.claims.proofs.Laws.Serving
 use Rattle.claims.proofs.Laws.Served.{apartb, later, later-same, later-stored, later-apart, later-first, waiter-takes}
 
--- ---- the calls of an object
--- those that may store its record
-abbrev ownb : Kind → ℕ → Bool
-ownb d i = oneOf i (rowOf d .creates) || oneOf i (rowOf d .deletes) || oneOf i (rowOf d .takes) || oneOf i (rowOf d .gives) || oneOf i (rowOf d .empties)
-
-own-by : {R : Type 0} (d : Kind) (i : ℕ) → ownb d i ≡ true → (oneOf i (rowOf d .creates) ≡ true → R) → (oneOf i (rowOf d .deletes) ≡ true → R) → (oneOf i (rowOf d .takes) ≡ true → R)
-    → (oneOf i (rowOf d .gives) ≡ true → R) → (oneOf i (rowOf d .empties) ≡ true → R) → R
-own-by d i o c x t g e =
-    by-test (oneOf i (rowOf d .creates)) c
-    (λ nc. by-test (oneOf i (rowOf d .deletes)) x
-    (λ nx. by-test (oneOf i (rowOf d .takes)) t
-    (λ nt. by-test (oneOf i (rowOf d .gives)) g
-    (λ ng. e (rw (nc, nx, nt, ng) at o)))))
-
--- those that may serve its waiters are among them
-serves-own : (d : Kind) (i : ℕ) → (oneOf i (rowOf d .gives) || oneOf i (rowOf d .takes) || oneOf i (rowOf d .empties)) ≡ true → ownb d i ≡ true
-serves-own d i = go (oneOf i (rowOf d .creates) || oneOf i (rowOf d .deletes)) (oneOf i (rowOf d .takes)) (oneOf i (rowOf d .gives)) (oneOf i (rowOf d .empties))
-  where
-    go : (r t g e : Bool) → (g || t || e) ≡ true → (r || t || g || e) ≡ true
-    go true t g e o = refl
-    go false true g e o = refl
-    go false false true e o = refl
-    go false false false e o = o
-
-abbrev All : (ℕ → Type 0) → List ℕ → Type 0
-All P [] = Unit {0}
-All P (x ∷ xs) = P x × All P xs
-
-one-of : (P : ℕ → Type 0) (i : ℕ) (xs : List ℕ) → All P xs → oneOf i xs ≡ true → P i
-unfolding oneOf
-one-of P i [] a e = never e refl
-one-of P i (x ∷ xs) a e = by-test (eqb i x) (λ q. subst P (sym (eqb-true i x q)) (a .0)) (λ q. one-of P i xs (a .1) (or-rest (eqb i x) (oneOf i xs) e q))
-
--- a call names an object of a kind
-abbrev pub Named : Kind → ℕ → Type 0
-Named d i = (kindOf i ≡ d) × (limitOf i ≡ sizeOf d)
-
--- of the calls of a semaphore or pool none both takes and gives, and none empties
-record Own (d : Kind) (i : ℕ) : Type 0 where
-  named : ownb d i ≡ true → Named d i
-  takes : oneOf i (rowOf d .takes) ≡ true → oneOf i (rowOf d .gives) ≡ false
-  empties : oneOf i (rowOf d .empties) ≡ false
-  rolled : rolledb d ≡ true
-  other : stateOn d ≡ 5 → ⊥
-
-own : (d : Kind) → countedb d ≡ true → (i : ℕ) → Own d i
-unfolding kindOf limitOf oneOf
-own semaphore c i =
-    let N = one-of (Named semaphore) i in
-    let r : Named semaphore 16 = (refl, refl) in
-    let named : ownb semaphore i ≡ true → Named semaphore i = λ o. own-by semaphore i o (N (16 ∷ []) (r, tt)) (N (17 ∷ []) (r, tt)) (N (18 ∷ []) (r, tt)) (N (19 ∷ 20 ∷ []) (r, (r, tt))) (N [] tt) in
-    record { named = named; takes = one-of (λ j. oneOf j (19 ∷ 20 ∷ []) ≡ false) i (18 ∷ []) (refl, tt); empties = refl; rolled = refl; other = λ z. omega (arith, z) }
-own queue c i = never c refl
-own group c i = never c refl
-own pool c i =
-    let N = one-of (Named pool) i in
-    let r : Named pool 33 = (refl, refl) in
-    let named : ownb pool i ≡ true → Named pool i = λ o. own-by pool i o (N (33 ∷ []) (r, tt)) (N (34 ∷ []) (r, tt)) (N (35 ∷ []) (r, tt)) (N (36 ∷ []) (r, tt)) (N [] tt) in
-    record { named = named; takes = one-of (λ j. oneOf j (36 ∷ []) ≡ false) i (35 ∷ []) (refl, tt); empties = refl; rolled = refl; other = λ z. omega (arith, z) }
-
 -- ---- edits that leave an object alone: all of a call that is not its own
-module _ (d : Kind) (n i a : ℕ) (away : (eqb n a && ownb d i) ≡ false) where
-  elsewhere : (e : Kind) (j : ℕ) → eqb j a ≡ true → ownb e i ≡ true → not (sameb (placeOf d n) (placeOf e j)) ≡ true
-  elsewhere e j at own =
-      by-test (sameb (placeOf d n) (placeOf e j))
-      (λ s. let q = Lines.same-place (placeOf d n) (placeOf e j) s in
-      never (and-in (eqb n a) (ownb d i) (ap (λ (p : Place). eqb (p .number) a) q ∙ at) (ap (λ (c : Kind). ownb c i) (Objects.same-kind d e (ap (λ (p : Place). p .state) q)) ∙ own)) away)
-      (λ s. ap not s)
+module _ (d : Kind) (n : ℕ) (small : n < sizeOf d) (m : Made) (nc : onb n m (rowOf d .creates) ≡ false) (nd : onb n m (rowOf d .deletes) ≡ false) (nt : onb n m (rowOf d .takes) ≡ false)
+    (ng : onb n m (rowOf d .gives) ≡ false) (ne : onb n m (rowOf d .empties) ≡ false) where
+  abbrev i : ℕ
+  i = m .number
 
-  may-apart : (e : Edit) → mayb i a e ≡ true → apartb (placeOf d n) e ≡ true
+  -- an edit of one of the object's columns is for another place
+  apart-of : (c : Kind) (j : ℕ) (l : Kind → List ℕ) → Serving.Own d (l d) → onb n m (l d) ≡ false → eqb j (target m) ≡ true → oneOf i (l c) ≡ true → not (sameb (placeOf d n) (placeOf c j)) ≡ true
+  apart-of c j l own f a y = ap not (Serving.elsewhere d n small m c j l own f a y)
+
+  may-apart : (e : Edit) → mayb i (target m) e ≡ true → apartb (placeOf d n) e ≡ true
   unfolding mayb mayMoveb apartb
-  may-apart (moves t (ends (served e j) words)) y = elsewhere e j (and-left (eqb j a) _ y) (serves-own e i (and-right (eqb j a) _ y))
-  may-apart (moves t (ends (deleted e j) words)) y = refl
+  may-apart (moves t (ends (served c j) words)) y =
+      let a = and-left (eqb j (target m)) _ y in
+      let O = Serving.own-row d in
+      by-test (oneOf i (rowOf c .gives)) (apart-of c j (λ b. rowOf b .gives) (O .1) ng a)
+      (λ g. by-test (oneOf i (rowOf c .takes)) (apart-of c j (λ b. rowOf b .takes) (O .0) nt a)
+      (λ t. apart-of c j (λ b. rowOf b .empties) (O .2) ne a (rw (g, t) at (and-right (eqb j (target m)) _ y))))
+  may-apart (moves t (ends (deleted c j) words)) y = refl
   may-apart (moves t (ends timedOut words)) y = refl
   may-apart (moves t (ends aborted words)) y = refl
   may-apart (moves t (starts front state object ticks h)) y = refl
@@ -115,14 +61,34 @@ module _ (d : Kind) (n i a : ℕ) (away : (eqb n a && ownb d i) ≡ false) where
   may-apart (moves t (turns f g)) y = refl
   may-apart (alters t f) y = refl
   may-apart (counts t) y = refl
-  may-apart (ranks e j) y = refl
-  may-apart (stores e j x) y = elsewhere e j (and-left (eqb j a) _ y) (and-right (eqb j a) _ y)
+  may-apart (ranks c j) y = refl
+  may-apart (stores c j x) y =
+      let a = and-left (eqb j (target m)) _ y in
+      let O = Serving.own-row d in
+      by-test (oneOf i (rowOf c .creates)) (apart-of c j (λ b. rowOf b .creates) (O .5) nc a)
+      (λ q. by-test (oneOf i (rowOf c .deletes)) (apart-of c j (λ b. rowOf b .deletes) (O .3) nd a)
+      (λ r. by-test (oneOf i (rowOf c .takes)) (apart-of c j (λ b. rowOf b .takes) (O .0) nt a)
+      (λ t. by-test (oneOf i (rowOf c .gives)) (apart-of c j (λ b. rowOf b .gives) (O .1) ng a)
+      (λ g. apart-of c j (λ b. rowOf b .empties) (O .2) ne a (rw (q, r, t, g) at (and-right (eqb j (target m)) _ y))))))
   may-apart (sets c) y = refl
 
-  all-apart : (es : List Edit) → allb (mayb i a) es ≡ true → allb (apartb (placeOf d n)) es ≡ true
-  unfolding allb
-  all-apart [] y = refl
-  all-apart (e ∷ es) y = and-in _ _ (may-apart e (Lines.all-first (mayb i a) e es y)) (all-apart es (Lines.all-rest (mayb i a) e es y))
+-- of the calls of a semaphore or pool none both takes and gives, and none empties
+record Own (d : Kind) (i : ℕ) : Type 0 where
+  takes : oneOf i (rowOf d .takes) ≡ true → oneOf i (rowOf d .gives) ≡ false
+  empties : oneOf i (rowOf d .empties) ≡ false
+  rolled : rolledb d ≡ true
+  other : stateOn d ≡ 5 → ⊥
+
+only : (i j : ℕ) (l : List ℕ) → oneOf i (j ∷ []) ≡ true → oneOf j l ≡ false → oneOf i l ≡ false
+unfolding oneOf
+only i j l o f = by-test (eqb i j) (λ e. ap (λ (x : ℕ). oneOf x l) (eqb-true i j e) ∙ f) (λ e. never o (rw e refl))
+
+own : (d : Kind) → countedb d ≡ true → (i : ℕ) → Own d i
+unfolding oneOf
+own semaphore c i = record { takes = λ o. only i 18 (19 ∷ 20 ∷ []) o refl; empties = refl; rolled = refl; other = λ z. omega (arith, z) }
+own queue c i = never c refl
+own group c i = never c refl
+own pool c i = record { takes = λ o. only i 35 (36 ∷ []) o refl; empties = refl; rolled = refl; other = λ z. omega (arith, z) }
 
 -- and all of a call with another status than 0x00
 starts-apart : (p : Place) (t : ℕ) (m : Move) → startsb m ≡ true → apartb p (moves t m) ≡ true
@@ -175,9 +141,10 @@ module _ (k : Kernel) (S : Sound k) (m : Made) (st : Does.Step k (m .number) (ta
       go (Does.Step.carries e r E R) = subst (λ (y : Outcome). P (y .status) (y .kernel)) (sym r) (g e E R)
 
   -- one that creates an object and is done
-  pub new-object : (d : Kind) → Named d (m .number) → oneOf (m .number) (rowOf d .creates) ≡ true → doneb (answer k m) ≡ true → objectAt d (next k m) (m .a) ≡ newOf d (m .b) (m .c)
+  pub new-object : (d : Kind) → oneOf (m .number) (rowOf d .creates) ≡ true → doneb (answer k m) ≡ true → objectAt d (next k m) (m .a) ≡ newOf d (m .b) (m .c)
   unfolding doneb
-  new-object d named own =
+  new-object d own =
+      let named = Serving.own-kind d (m .number) (rowOf d .creates) (Serving.own-row d .5) own in
       by-step (λ s x. eqb s 0 ≡ true → objectAt d x (m .a) ≡ newOf d (m .b) (m .c)) (λ s z y. never y z)
       (λ e P R y. let c = (rw (named .0) at (R .creates)) own in
       let low = c .1 in
@@ -220,16 +187,6 @@ module _ (d : Kind) (counted : countedb d ≡ true) (n : ℕ) (k : Kernel) (S : 
   none-entry : (status : ℕ) (x : Kernel) → (eqb status 0 ≡ true → (givesb d n m ≡ false) × (takesb d n m ≡ false)) → later d n k x ≡ 0 → objectAt d x n ≡ objectAt d k n → Entry d n k m status x
   none-entry status x h l r = let g = none (givesb d n m) (eqb status 0) (λ z. h z .0) in let t = none (takesb d n m) (eqb status 0) (λ z. h z .1) in even (omega (arith, g, t, l)) r
 
-  -- the first argument of its own calls names it where their target does
-  unnamed : (eqb n (target m) && ownb d (m .number)) ≡ false → (column : List ℕ) → (oneOf (m .number) column ≡ true → ownb d (m .number) ≡ true) → onb n m column ≡ false
-  unfolding onb
-  unnamed away column own =
-      by-test (onb n m column)
-      (λ o. let w = own (and-right (eqb (m .a) n) _ o) in
-      let z = eqb-true (m .a) n (and-left (eqb (m .a) n) _ o) in
-      never (and-in (eqb n (target m)) _ (eq-eqb n (target m) (let l = O .named w .1 in let s = small in omega (arith, l, s, z))) w) away)
-      (λ o. o)
-
   module _ (e : Effect) (P : Does.Proper k (m .number) (target m) e) (R : Role k (m .number) (target m) (m .b) (m .c) (m .messages) e) where
     abbrev x : Kernel
     x = carriedOut k e .kernel
@@ -240,26 +197,23 @@ module _ (d : Kind) (counted : countedb d ≡ true) (n : ℕ) (k : Kernel) (S : 
     apart-entry : (status : ℕ) → allb (apartb (placeOf d n)) (e .edits) ≡ true → (eqb status 0 ≡ true → (givesb d n m ≡ false) × (takesb d n m ≡ false)) → Entry d n k m status x
     apart-entry status A h = none-entry status x h (later-apart d n k F (m .number) (target m) e P A) (stored _ (record-all d n k (e .edits) A))
 
-    -- one of its own calls, done
-    module _ (fine : e .success ≡ done) (o : ownb d (m .number) ≡ true) (at : n ≡ target m) where
-      here : (column : List ℕ) → onb n m column ≡ oneOf (m .number) column
-      unfolding onb
-      here column = rw (eq-eqb (m .a) n (let l = O .named o .1 in let s = small in omega (arith, l, s, at))) refl
-
-      take-entry : oneOf (m .number) (rowOf d .takes) ≡ true → Entry d n k m 0 x
-      unfolding givesb takesb oneIf
+    -- one that takes or gives, and is done
+    module _ (fine : e .success ≡ done) where
+      take-entry : takesb d n m ≡ true → Entry d n k m 0 x
+      unfolding givesb takesb onb oneIf
       take-entry t =
-          let r = (rw (O .named o .0, ← at) at (R .takes)) t .served counted fine in
-          let one = ap (λ (b : Bool). oneIf (b && true)) (here (rowOf d .takes) ∙ t) in
+          let r = Serving.takes-at d n small m k e R t .served counted fine in
           let l = later-stored d n k F (m .number) (target m) e P _ (r .1) in
-          less (omega (arith, one, l)) (ap (λ (b : Bool). oneIf (b && true)) (here _ ∙ O .takes t)) (r .0) (stored _ (record-stored d n k F small _ (e .edits) (r .1)))
+          let one = ap (λ (b : Bool). oneIf (b && true)) t in
+          let g = none (givesb d n m) true (λ z. rw (O .takes (and-right (eqb (m .a) n) _ t)) (and-false (eqb (m .a) n))) in
+          less (omega (arith, one, l)) g (r .0) (stored _ (record-stored d n k F small _ (e .edits) (r .1)))
 
-      give-entry : oneOf (m .number) (rowOf d .gives) ≡ true → Entry d n k m 0 x
-      unfolding givesb takesb oneIf applied
-      give-entry g =
-          let r = (rw (O .named o .0, ← at) at (R .gives)) g in
-          let one = ap (λ (b : Bool). oneIf (b && true)) (here (rowOf d .gives) ∙ g) in
-          let t = none (takesb d n m) true (λ z. here _ ∙ by-test (oneOf (m .number) (rowOf d .takes)) (λ t. never g (O .takes t)) (λ t. t)) in
+      give-entry : takesb d n m ≡ false → givesb d n m ≡ true → Entry d n k m 0 x
+      unfolding oneIf applied
+      give-entry nt g =
+          let r = Serving.gives-at d n small m k e R g in
+          let one = ap (λ (b : Bool). oneIf (b && true)) g in
+          let t = none (takesb d n m) true (λ z. nt) in
           by-test (waitedb k d n)
           (λ w. let u = firstAt (k .scheduler) (placeOf d n) in
           let p = first-placed (k .scheduler) (placeOf d n) (ltb-true u 32 w) in
@@ -270,24 +224,20 @@ module _ (d : Kind) (counted : countedb d ≡ true) (n : ℕ) (k : Kernel) (S : 
           let l = later-stored d n k F (m .number) (target m) e P _ z in
           more (omega (arith, t, l)) one (r .may) (stored _ (record-stored d n k F small _ (e .edits) z)))
 
-      own-entry : deletesb d n m ≡ false → Entry d n k m 0 x
-      unfolding deletesb
-      own-entry undeleted =
-          own-by d (m .number) o (λ c. never made ((rw (O .named o .0, ← at) at (R .creates)) c .0)) (λ c. never (here _ ∙ c) undeleted) take-entry give-entry (λ c. never c (O .empties))
+      done-entry : deletesb d n m ≡ false → Entry d n k m 0 x
+      unfolding deletesb givesb takesb onb
+      done-entry undeleted =
+          by-test (takesb d n m) take-entry
+          (λ t. by-test (givesb d n m) (give-entry t)
+          (λ g. by-test (onb n m (rowOf d .creates)) (λ c. never made (Serving.creates-at d n small m k e R c .0))
+          (λ c. apart-entry 0 (Serving.all-from _ _ (may-apart d n small m c undeleted t g (rw (O .empties) (and-false (eqb (m .a) n)))) (e .edits) (P .may)) (λ y. (g, t)))))
 
     carried-entry : (deletesb d n m && eqb (statusOf (e .success)) 0) ≡ false → Entry d n k m (statusOf (e .success)) x
-    unfolding givesb takesb statusOf
+    unfolding statusOf
     carried-entry undeleted =
         by-success (placeOf d n) (e .success) (e .edits) (P .shape)
         (λ z. subst (λ (s : Success). Entry d n k m (statusOf s) x) (sym z)
-        (by-test (eqb n (target m) && ownb d (m .number))
-        (λ o. own-entry z (and-right (eqb n (target m)) _ o) (eqb-true n (target m) (and-left (eqb n (target m)) _ o))
-        (by-test (deletesb d n m) (λ w. never (and-in _ _ w (ap (λ (s : Success). eqb (statusOf s) 0) z)) undeleted) (λ w. w)))
-        (λ o. apart-entry 0 (all-apart d n (m .number) (target m) o (e .edits) (P .may))
-        (λ y. (
-          unnamed o _ (λ g. serves-own d (m .number) (or-left _ _ (or-left _ _ g))),
-          unnamed o _ (λ t. serves-own d (m .number) (or-left _ _ (or-right (oneOf (m .number) (rowOf d .gives)) _ t))),
-        )))))
+        (done-entry z (by-test (deletesb d n m) (λ w. never (and-in _ _ w (ap (λ (s : Success). eqb (statusOf s) 0) z)) undeleted) (λ w. w))))
         (λ z A. apart-entry (statusOf (e .success)) A (λ y. never y z))
 
   -- any call that does not delete it

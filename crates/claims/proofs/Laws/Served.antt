@@ -7,14 +7,14 @@ use native.Mathlib.Omega.{arith}
 use lib.ListN.{length}
 use lib.Dec.{eqb}
 use borrow.Author.Tests.{eqb-true, eq-eqb, ne-eqb, ltb-true}
-use Rattle.lines.specs.Logic.{if_then_else_, oneIf}
+use Rattle.lines.specs.Logic.{if_then_else_}
 use Rattle.lines.specs.Lists.{filter, first, count}
 use Rattle.lines.proofs.Laws.Logic.{by-test, by-eq, by-choice, never, and-left, and-right, and-in, implies-out}
 use Rattle.lines.proofs.Laws.Lists
 use Rattle.lines.proofs.Laws.Less
 use Rattle.scheduler.specs.declared.thread.Thread.{Thread}
 use Rattle.scheduler.specs.declared.thread.Place.{Place}
-use Rattle.scheduler.specs.Threads.{readyb, waitsb, pausedb, standsb, placedb, numberOf, inState, awake}
+use Rattle.scheduler.specs.Threads.{pausedb, placedb, inState, awake}
 use Rattle.scheduler.specs.Orders.{lineAt, firstAt}
 use Rattle.scheduler.proofs.Laws.Threads.{one-place}
 use Rattle.scheduler.proofs.Laws.Orders

@@ -1,26 +1,25 @@
 -- Who leaves the line of an object by one call, and which calls are those of the object.
 use mathlib.Core.Path.{_≡_, refl, sym, ap, _∙_, subst}
 use mathlib.Core.List.{List, [], _∷_, _++_, append-nil}
-use mathlib.Core.Bool.{Bool, true, false, _&&_, _||_, not, and-false}
+use mathlib.Core.Bool.{Bool, true, false, _||_, not}
 use Prim.Native.Nat.{ℕ, _<_}
 use native.Mathlib.Omega.{arith}
 use lib.Dec.{eqb}
-use borrow.Author.Tests.{eqb-true, eq-eqb, ne-eqb}
-use Rattle.lines.specs.Logic.{if_then_else_, oneIf}
+use borrow.Author.Tests.{eqb-true, eq-eqb}
+use Rattle.lines.specs.Logic.{oneIf}
 use Rattle.lines.specs.Lists.{count, without, onlyIf, less}
 use Rattle.lines.proofs.Laws.Logic.{by-test, by-eq, never, and-left, and-right, and-in, or-rest}
 use Rattle.lines.proofs.Laws.Lists
 use Rattle.lines.proofs.Laws.Less
-use Rattle.scheduler.specs.declared.thread.Thread.{Thread}
 use Rattle.scheduler.specs.declared.thread.Place.{Place}
-use Rattle.scheduler.specs.Threads.{readyb, waitsb, standsb, numberOf, placedb, inState}
+use Rattle.scheduler.specs.Threads.{placedb, inState}
 use Rattle.scheduler.specs.Sound.{Steady}
 use Rattle.scheduler.specs.Orders.{lineAt}
 use Rattle.scheduler.proofs.Laws.Orders
 use Rattle.calls.specs.declared.held.Held.{Held}
 use Rattle.kernel.specs.declared.Kernel.{Kernel}
 use Rattle.kernel.specs.Tables.{threadOf}
-use Rattle.kernel.specs.Kinds.{Kind, sizeOf, placeOf}
+use Rattle.kernel.specs.Kinds.{Kind, createdb, objectAt, placeOf, sizeOf}
 use Rattle.kernel.specs.Kinds.Kind.{semaphore, queue, group, pool}
 use Rattle.kernel.specs.Sound.{Fit}
 use Rattle.kernel.specs.Edits.{Move, Edit, Effect, recordBy, frontb, anyb, leavesb, sameb, movers, counted, edited, applied, lineBy, linesBy, carriedOut}
@@ -28,7 +27,7 @@ use Rattle.kernel.specs.Edits.Cause.{served, deleted, timedOut, aborted}
 use Rattle.kernel.specs.Edits.Move.{ends, starts, stops, turns}
 use Rattle.kernel.specs.Edits.Edit.{moves, alters, counts, ranks, stores, sets}
 use Rattle.kernel.specs.Roles.{rowOf, oneOf, kindOf, limitOf, mayMoveb, mayb, allb}
-use Rattle.kernel.specs.Effects.{Role, Takes, Gives, Taker}
+use Rattle.kernel.specs.Effects.{Role, Takes, Gives, Taker, does, newOf}
 use Rattle.kernel.proofs.Laws.Objects
 use Rattle.kernel.proofs.Laws.Fits
 use Rattle.kernel.proofs.Laws.Lines
@@ -55,7 +54,7 @@ none-move c f h g (e ∷ es) a = both e (Lines.all-first f e es a) (none-move c 
     both (stores d n x) y r = r
     both (sets n) y r = r
 
-all-from : (f g : Edit → Bool) → ((e : Edit) → f e ≡ true → g e ≡ true) → (es : List Edit) → allb f es ≡ true → allb g es ≡ true
+pub all-from : (f g : Edit → Bool) → ((e : Edit) → f e ≡ true → g e ≡ true) → (es : List Edit) → allb f es ≡ true → allb g es ≡ true
 unfolding allb
 all-from f g h [] a = refl
 all-from f g h (e ∷ es) a = and-in (g e) (allb g es) (h e (and-left (f e) (allb f es) a)) (all-from f g h es (and-right (f e) (allb f es) a))
@@ -134,14 +133,14 @@ abbrev pub Own : Kind → List ℕ → Type 0
 Own d [] = Unit {0}
 Own d (n ∷ ns) = ((kindOf n ≡ d) × (limitOf n ≡ sizeOf d)) × Own d ns
 
-pub own-row : (d : Kind) → Own d (rowOf d .takes) × Own d (rowOf d .gives) × Own d (rowOf d .empties) × Own d (rowOf d .deletes) × Own d (rowOf d .prioritises)
+pub own-row : (d : Kind) → Own d (rowOf d .takes) × Own d (rowOf d .gives) × Own d (rowOf d .empties) × Own d (rowOf d .deletes) × Own d (rowOf d .prioritises) × Own d (rowOf d .creates)
 unfolding kindOf limitOf
-own-row semaphore = (((refl, refl), tt), ((refl, refl), ((refl, refl), tt)), tt, ((refl, refl), tt), ((refl, refl), tt))
-own-row queue = (((refl, refl), tt), ((refl, refl), ((refl, refl), tt)), ((refl, refl), tt), ((refl, refl), tt), ((refl, refl), tt))
-own-row group = (((refl, refl), tt), ((refl, refl), tt), tt, ((refl, refl), tt), tt)
-own-row pool = (((refl, refl), tt), ((refl, refl), tt), tt, ((refl, refl), tt), ((refl, refl), tt))
+own-row semaphore = (((refl, refl), tt), ((refl, refl), ((refl, refl), tt)), tt, ((refl, refl), tt), ((refl, refl), tt), ((refl, refl), tt))
+own-row queue = (((refl, refl), tt), ((refl, refl), ((refl, refl), tt)), ((refl, refl), tt), ((refl, refl), tt), ((refl, refl), tt), ((refl, refl), tt))
+own-row group = (((refl, refl), tt), ((refl, refl), tt), tt, ((refl, refl), tt), tt, ((refl, refl), tt))
+own-row pool = (((refl, refl), tt), ((refl, refl), tt), tt, ((refl, refl), tt), ((refl, refl), tt), ((refl, refl), tt))
 
-own-kind : (d : Kind) (n : ℕ) (l : List ℕ) → Own d l → oneOf n l ≡ true → (kindOf n ≡ d) × (limitOf n ≡ sizeOf d)
+pub own-kind : (d : Kind) (n : ℕ) (l : List ℕ) → Own d l → oneOf n l ≡ true → (kindOf n ≡ d) × (limitOf n ≡ sizeOf d)
 unfolding oneOf
 own-kind d n [] own o = never o refl
 own-kind d n (i ∷ l) own o = by-test (eqb n i) (λ e. rw (eqb-true n i e) (own .0)) (λ e. own-kind d n l (own .1) (or-rest (eqb n i) (oneOf n l) o e))
@@ -178,11 +177,14 @@ module _ (d : Kind) (n : ℕ) (small : n < sizeOf d) (m : Made) where
     pub empties-at : onb n m (rowOf d .empties) ≡ true → (t : ℕ) → Taker d k n t → e .edits ≡ []
     empties-at = at-object (λ c i. (t : ℕ) → Taker c k i t → e .edits ≡ []) (λ c. rowOf c .empties) (own-row d .2) (R .empties)
 
+    pub creates-at : onb n m (rowOf d .creates) ≡ true → (createdb d (objectAt d k n) ≡ false) × (n < sizeOf d) × (e ≡ does (stores d n (newOf d (m .b) (m .c)) ∷ []))
+    creates-at = at-object (λ c i. (createdb c (objectAt c k i) ≡ false) × (i < sizeOf c) × (e ≡ does (stores c i (newOf c (m .b) (m .c)) ∷ []))) (λ c. rowOf c .creates) (own-row d .5) (R .creates)
+
   abbrev p : Place
   p = placeOf d n
 
   -- an edit of a column of which the call is not one of this object's is for another place
-  elsewhere : (c : Kind) (i : ℕ) (l : Kind → List ℕ) → Own d (l d) → onb n m (l d) ≡ false → eqb i (target m) ≡ true → oneOf (m .number) (l c) ≡ true → sameb p (placeOf c i) ≡ false
+  pub elsewhere : (c : Kind) (i : ℕ) (l : Kind → List ℕ) → Own d (l d) → onb n m (l d) ≡ false → eqb i (target m) ≡ true → oneOf (m .number) (l c) ≡ true → sameb p (placeOf c i) ≡ false
   elsewhere c i l own f a y =
       by-test (sameb p (placeOf c i))
       (λ s. let z = Lines.same-place p (placeOf c i) s in
