@@ -6,7 +6,7 @@ use Rattle.kernel.specs.declared.Answer.{Answer}
 use Rattle.kernel.specs.General as General
 
 -- a call as it is made: number, caller, four arguments and the lent message area
-pub record Made : Type 0 where
+pub record Request : Type 0 where
   pub number : ℕ
   pub caller : ℕ
   pub a : ℕ
@@ -16,13 +16,13 @@ pub record Made : Type 0 where
   pub messages : List ℕ
 
 -- the general call
-unfoldable pub answer : Kernel → Made → Answer
+unfoldable pub answer : Kernel → Request → Answer
 answer k m = General.call k (m .number) (m .caller) (m .a) (m .b) (m .c) (m .d) (m .messages)
 
 -- the tables after a call, and after a list of calls
-unfoldable pub next : Kernel → Made → Kernel
+unfoldable pub next : Kernel → Request → Kernel
 next k m = answer k m .kernel
 
-unfoldable pub after : Kernel → List Made → Kernel
+unfoldable pub after : Kernel → List Request → Kernel
 after k [] = k
 after k (m ∷ ms) = after (next k m) ms

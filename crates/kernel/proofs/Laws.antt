@@ -5,7 +5,7 @@ pub mod Sound
 pub mod Objects
 pub mod Fits
 pub mod Lines
-pub mod Fates
+pub mod Changes
 pub mod Does
 pub mod Effects
 pub mod Uses

@@ -17,20 +17,20 @@ use Rattle.kernel.specs.Sound.{Sound}
 use Rattle.kernel.specs.Kinds.Kind.{semaphore, pool}
 use Rattle.kernel.specs.Roles.{oneOf}
 use Rattle.kernel.proofs.Laws.Objects
-use Rattle.claims.specs.Lists.{Made, answer, next, after}
+use Rattle.claims.specs.Lists.{Request, answer, next, after}
 use Rattle.claims.specs.Rolls.{doneb, gave}
 use Rattle.claims.specs.Accounts.{servedLater, served, Undeleted, SemaphoreAccount, PoolAccount, Accounts}
-use Rattle.claims.proofs.Laws.Steps.{next-sound, made-step}
+use Rattle.claims.proofs.Laws.Steps.{next-sound, request-step}
 use Rattle.claims.proofs.Laws.Served.{later}
 use Rattle.claims.proofs.Laws.Entries.{Entry, even, less, more, gives, takes, step-entry, new-object}
 
 -- ---- what one call makes of a count
-record Counted (n : ℕ) (k : Kernel) (m : Made) (status : ℕ) (x : Kernel) : Type 0 where
+record Counted (n : ℕ) (k : Kernel) (m : Request) (status : ℕ) (x : Kernel) : Type 0 where
   created : semaphoreAt x n .created ≡ true
   enough : takes semaphore n m status + later semaphore n k x ≤ semaphoreAt k n .count + gives semaphore n m status
   count : semaphoreAt x n .count ≡ (semaphoreAt k n .count + gives semaphore n m status - (takes semaphore n m status + later semaphore n k x)) % 4294967296
 
-module _ (n : ℕ) (k : Kernel) (m : Made) (status : ℕ) (x : Kernel) (made : semaphoreAt k n .created ≡ true) (low : semaphoreAt k n .count < 4294967296) where
+module _ (n : ℕ) (k : Kernel) (m : Request) (status : ℕ) (x : Kernel) (made : semaphoreAt k n .created ≡ true) (low : semaphoreAt k n .count < 4294967296) where
   counted : Entry semaphore n k m status x → Counted n k m status x
   unfolding counting oneMore
   counted (even b e) = let c = ap (λ (y : Semaphore). y .count) e in record { created = ap (λ (y : Semaphore). y .created) e ∙ made; enough = omega (arith, b); count = omega (arith, b, c, low) }
@@ -38,7 +38,7 @@ module _ (n : ℕ) (k : Kernel) (m : Made) (status : ℕ) (x : Kernel) (made : s
   counted (more o g may e) = let c = ap (λ (y : Semaphore). y .count) e in record { created = ap (λ (y : Semaphore). y .created) e; enough = omega (arith, o); count = omega (arith, o, g, c, low) }
 
 -- ---- and of the free blocks
-record Booked (n : ℕ) (k : Kernel) (m : Made) (status : ℕ) (x : Kernel) : Type 0 where
+record Booked (n : ℕ) (k : Kernel) (m : Request) (status : ℕ) (x : Kernel) : Type 0 where
   created : poolAt x n .created ≡ true
   slots : length (poolAt x n .list) ≡ 64
   total : blocksOf (poolAt x n) ≡ blocksOf (poolAt k n)
@@ -49,7 +49,7 @@ module _ (n : ℕ) (k : Kernel) (S : Sound k) (made : poolAt k n .created ≡ tr
   pool-fit : poolFitb (poolAt k n) ≡ true
   pool-fit = Objects.object-fit pool k (S .fit) n made
 
-  module _ (m : Made) (status : ℕ) (x : Kernel) where
+  module _ (m : Request) (status : ℕ) (x : Kernel) where
     changed : (y : Pool) → poolAt x n ≡ y → Records.Alike y (poolAt k n) → length (y .list) ≡ 64 → takes pool n m status + later pool n k x ≤ poolAt k n .free + gives pool n m status
         → y .free ≡ poolAt k n .free + gives pool n m status - (takes pool n m status + later pool n k x) → Booked n k m status x
     changed y e a l enough f =
@@ -72,11 +72,11 @@ module _ (n : ℕ) (k : Kernel) (S : Sound k) (made : poolAt k n .created ≡ tr
         changed (withFree (poolAt k n) (m .b)) e (Records.with-alike (poolAt k n) (m .b)) (Records.listing-slots (poolAt k n) _) (omega (arith, o)) (omega (arith, o, g, f))
 
 -- ---- lists of calls
-semaphore-from : (n : ℕ) (ms : List Made) (k : Kernel) → Sound k → semaphoreAt k n .created ≡ true → semaphoreAt k n .count < 4294967296 → Undeleted semaphore n k ms → SemaphoreAccount n (semaphoreAt k n .count) k ms
+semaphore-from : (n : ℕ) (ms : List Request) (k : Kernel) → Sound k → semaphoreAt k n .created ≡ true → semaphoreAt k n .count < 4294967296 → Undeleted semaphore n k ms → SemaphoreAccount n (semaphoreAt k n .count) k ms
 unfolding served servedLater gave after doneb
 semaphore-from n [] k S made low u = record { enough = omega arith; count = omega (arith, low) }
 semaphore-from n (m ∷ ms) k S made low u =
-    let one = counted n k m (answer k m .status) (next k m) made low (step-entry semaphore refl n k S made m (made-step k S m) (u .0)) in
+    let one = counted n k m (answer k m .status) (next k m) made low (step-entry semaphore refl n k S made m (request-step k S m) (u .0)) in
     let few = one .enough in
     let now = one .count in
     let rest = semaphore-from n ms (next k m) (next-sound k S m) (one .created) (omega (arith, now)) (u .1) in
@@ -84,11 +84,11 @@ semaphore-from n (m ∷ ms) k S made low u =
     let last = rest .count in
     record { enough = omega (arith, few, now, enough); count = omega (arith, few, now, enough, last) }
 
-pool-from : (n : ℕ) (ms : List Made) (k : Kernel) → Sound k → poolAt k n .created ≡ true → length (poolAt k n .list) ≡ 64 → Undeleted pool n k ms → PoolAccount n (poolAt k n .free) k ms
+pool-from : (n : ℕ) (ms : List Request) (k : Kernel) → Sound k → poolAt k n .created ≡ true → length (poolAt k n .list) ≡ 64 → Undeleted pool n k ms → PoolAccount n (poolAt k n .free) k ms
 unfolding served servedLater gave after doneb
 pool-from n [] k S made slots u = record { enough = omega arith; free = omega arith; listed = Records.fit-length (poolAt k n) (pool-fit n k S made slots) made slots; total = refl }
 pool-from n (m ∷ ms) k S made slots u =
-    let one = booked n k S made slots m (answer k m .status) (next k m) (step-entry pool refl n k S made m (made-step k S m) (u .0)) in
+    let one = booked n k S made slots m (answer k m .status) (next k m) (step-entry pool refl n k S made m (request-step k S m) (u .0)) in
     let few = one .enough in
     let now = one .free in
     let rest = pool-from n ms (next k m) (next-sound k S m) (one .created) (one .slots) (u .1) in
@@ -97,11 +97,11 @@ pool-from n (m ∷ ms) k S made slots u =
     record { enough = omega (arith, few, now, enough); free = omega (arith, few, now, enough, last); listed = rest .listed; total = rest .total ∙ one .total }
 
 -- ---- since creation
-module _ (k : Kernel) (S : Sound k) (m : Made) where
-  semaphore-since : m .number ≡ 16 → m .b < 4294967296 → doneb (answer k m) ≡ true → (ms : List Made) → Undeleted semaphore (m .a) (next k m) ms → SemaphoreAccount (m .a) (m .b) (next k m) ms
+module _ (k : Kernel) (S : Sound k) (m : Request) where
+  semaphore-since : m .number ≡ 16 → m .b < 4294967296 → doneb (answer k m) ≡ true → (ms : List Request) → Undeleted semaphore (m .a) (next k m) ms → SemaphoreAccount (m .a) (m .b) (next k m) ms
   unfolding counting oneOf
   semaphore-since n low done ms u =
-      let e = new-object k S m (made-step k S m) semaphore (subst (λ (i : ℕ). oneOf i (16 ∷ []) ≡ true) (sym n) refl) done in
+      let e = new-object k S m (request-step k S m) semaphore (subst (λ (i : ℕ). oneOf i (16 ∷ []) ≡ true) (sym n) refl) done in
       let c : semaphoreAt (next k m) (m .a) .count ≡ m .b = ap (λ (y : Semaphore). y .count) e in
       subst (λ (b : ℕ). SemaphoreAccount (m .a) b (next k m) ms) c
       (semaphore-from (m .a) ms (next k m) (next-sound k S m) (ap (λ (y : Semaphore). y .created) e) (omega (arith, c, low)) u)
@@ -109,9 +109,9 @@ module _ (k : Kernel) (S : Sound k) (m : Made) where
   module _ (n : m .number ≡ 33) (done : doneb (answer k m) ≡ true) where
     fresh : poolAt (next k m) (m .a) ≡ freshPool (m .b) (m .c)
     unfolding oneOf
-    fresh = new-object k S m (made-step k S m) pool (subst (λ (i : ℕ). oneOf i (33 ∷ []) ≡ true) (sym n) refl) done
+    fresh = new-object k S m (request-step k S m) pool (subst (λ (i : ℕ). oneOf i (33 ∷ []) ≡ true) (sym n) refl) done
 
-    pool-since : (ms : List Made) → Undeleted pool (m .a) (next k m) ms → PoolAccount (m .a) (blocksOf (poolAt (next k m) (m .a))) (next k m) ms
+    pool-since : (ms : List Request) → Undeleted pool (m .a) (next k m) ms → PoolAccount (m .a) (blocksOf (poolAt (next k m) (m .a))) (next k m) ms
     unfolding freshPool listing
     pool-since ms u =
         let T = next-sound k S m in

@@ -28,7 +28,7 @@ use Rattle.kernel.specs.Effects.{waitedb, rolledb, countedb, newOf, amountOf, o
 use Rattle.kernel.proofs.Laws.Objects
 use Rattle.kernel.proofs.Laws.Lines
 use Rattle.kernel.proofs.Laws.Does
-use Rattle.claims.specs.Lists.{Made, answer, next}
+use Rattle.claims.specs.Lists.{Request, answer, next}
 use Rattle.claims.specs.Rolls.{onb, givesb, takesb, doneb}
 use Rattle.claims.specs.Accounts.{deletesb}
 use Rattle.claims.proofs.Laws.Steps.{stepped, target, answer-is}
@@ -36,7 +36,7 @@ use Rattle.claims.proofs.Laws.Serving
 use Rattle.claims.proofs.Laws.Served.{apartb, later, later-same, later-stored, later-apart, later-first, waiter-takes}
 
 -- ---- edits that leave an object alone: all of a call that is not its own
-module _ (d : Kind) (n : ℕ) (small : n < sizeOf d) (m : Made) (nc : onb n m (rowOf d .creates) ≡ false) (nd : onb n m (rowOf d .deletes) ≡ false) (nt : onb n m (rowOf d .takes) ≡ false)
+module _ (d : Kind) (n : ℕ) (small : n < sizeOf d) (m : Request) (nc : onb n m (rowOf d .creates) ≡ false) (nd : onb n m (rowOf d .deletes) ≡ false) (nt : onb n m (rowOf d .takes) ≡ false)
     (ng : onb n m (rowOf d .gives) ≡ false) (ne : onb n m (rowOf d .empties) ≡ false) where
   abbrev i : ℕ
   i = m .number
@@ -129,7 +129,7 @@ unfolding applied edited
 record-stored d n k F small y es z = ap (λ (l : List Edit). objectAt d (applied k l) n) z ∙ Objects.stored-self d k n y (F .objects d .sized) small
 
 -- ---- one call
-module _ (k : Kernel) (S : Sound k) (m : Made) (st : Does.Step k (m .number) (target m) (m .b) (m .c) (m .messages) (stepped k m)) where
+module _ (k : Kernel) (S : Sound k) (m : Request) (st : Does.Step k (m .number) (target m) (m .b) (m .c) (m .messages) (stepped k m)) where
   -- what holds of its status and tables where it is refused, and where it is carried out
   by-step : (P : ℕ → Kernel → Type 0) → ((s : ℕ) → eqb s 0 ≡ false → P s k)
       → ((e : Effect) → Does.Proper k (m .number) (target m) e → Role k (m .number) (target m) (m .b) (m .c) (m .messages) e → P (statusOf (e .success)) (carriedOut k e .kernel)) → P (answer k m .status) (next k m)
@@ -155,14 +155,14 @@ module _ (k : Kernel) (S : Sound k) (m : Made) (st : Does.Step k (m .number) (ta
 
 -- ---- entries
 -- so many are given by a call with a status, and so many taken at once
-abbrev pub gives : Kind → ℕ → Made → ℕ → ℕ
+abbrev pub gives : Kind → ℕ → Request → ℕ → ℕ
 gives d n m status = oneIf (givesb d n m && eqb status 0)
 
-abbrev pub takes : Kind → ℕ → Made → ℕ → ℕ
+abbrev pub takes : Kind → ℕ → Request → ℕ → ℕ
 takes d n m status = oneIf (takesb d n m && eqb status 0)
 
 -- a call with a status leads from tables k to tables x: what is given is handed on, one is taken at once, or one is given and stays
-pub data Entry (d : Kind) (n : ℕ) (k : Kernel) (m : Made) (status : ℕ) (x : Kernel) : Type 0 where
+pub data Entry (d : Kind) (n : ℕ) (k : Kernel) (m : Request) (status : ℕ) (x : Kernel) : Type 0 where
   even : takes d n m status + later d n k x ≡ gives d n m status → objectAt d x n ≡ objectAt d k n → Entry d n k m status x
   less : takes d n m status + later d n k x ≡ 1 → gives d n m status ≡ 0 → 0 < amountOf d (objectAt d k n) → objectAt d x n ≡ oneLess d (objectAt d k n) → Entry d n k m status x
   more : takes d n m status + later d n k x ≡ 0 → gives d n m status ≡ 1 → mayGiveb d (objectAt d k n) (m .b) ≡ true → objectAt d x n ≡ oneGiven d (objectAt d k n) (m .b) → Entry d n k m status x
@@ -174,7 +174,7 @@ none a true h = rw (h refl) refl
 none true false h = refl
 none false false h = refl
 
-module _ (d : Kind) (counted : countedb d ≡ true) (n : ℕ) (k : Kernel) (S : Sound k) (made : createdb d (objectAt d k n) ≡ true) (m : Made) where
+module _ (d : Kind) (counted : countedb d ≡ true) (n : ℕ) (k : Kernel) (S : Sound k) (made : createdb d (objectAt d k n) ≡ true) (m : Request) where
   abbrev F : Fit k
   F = S .fit
 

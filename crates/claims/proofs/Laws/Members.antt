@@ -24,7 +24,7 @@ use Rattle.kernel.specs.Edits.{Edit, counted, movers, leavesb}
 use Rattle.kernel.specs.Edits.Edit.{moves, alters, counts, ranks, stores, sets}
 use Rattle.kernel.specs.Effects.{tickOf, ticksBelow, tickEffect}
 use Rattle.kernel.proofs.Laws.Lines
-use Rattle.kernel.proofs.Laws.Fates
+use Rattle.kernel.proofs.Laws.Changes
 use Rattle.claims.specs.Rolls.{Entry, names, rollOf, rest, each, unnamed, ticked}
 
 -- the line begins with the roll, and each member's ticks are those of its wait
@@ -36,7 +36,7 @@ pub record Rolls (p : Place) (k : Kernel) (r : List Entry) : Type 0 where
 pub record Leaves (p : Place) (k x : Kernel) (ts cs : List ℕ) : Type 0 where
   pub line : Begins (less ts (lineAt (k .scheduler) p)) (lineAt (x .scheduler) p)
   pub gone : (u : ℕ) → 0 < count u ts → count u (lineAt (x .scheduler) p) ≡ 0
-  pub kept : (u : ℕ) → 0 < count u (lineAt (k .scheduler) p) → count u ts ≡ 0 → Fates.Kept k x u (count u cs)
+  pub kept : (u : ℕ) → 0 < count u (lineAt (k .scheduler) p) → count u ts ≡ 0 → Changes.Kept k x u (count u cs)
 
 -- from tables k to tables x the roll r goes over into s: whom it strikes out is gone, and who stays holds what it held
 pub record Passes (p : Place) (k x : Kernel) (r s : List Entry) : Type 0 where
@@ -82,7 +82,7 @@ module _ (p : Place) (k x : Kernel) (ts cs : List ℕ) (A : Leaves p k x ts cs) 
   ys = less ts (names r)
 
   -- a member that is left was one, and has not left
-  stays : (u : ℕ) → 0 < count u ys → Fates.Kept k x u (count u cs)
+  stays : (u : ℕ) → 0 < count u ys → Changes.Kept k x u (count u cs)
   stays u c =
       by-eq (count u ts) 0
       (λ z. A .kept u (member p k r R u (let y = Less.less-kept ts (names r) u z in omega (arith, c, y))) z)

@@ -42,8 +42,8 @@ use Rattle.kernel.proofs.Laws.Fits
 use Rattle.waiting.proofs.Laws.Held
 use Rattle.kernel.proofs.Laws.Lines
 use Rattle.kernel.proofs.Laws.Does.{Shape, Proper, Step, refuses, carries}
-use Rattle.claims.specs.Lists.{Made, answer, next}
-use Rattle.claims.specs.Rolls.{Entry, names, rest, each, unnamed, ticked, onb, givesb, takesb, upsetsb, doneb, struck, rolled, rollOf, lastsb, Waits, startRoll, Kept, Served}
+use Rattle.claims.specs.Lists.{Request, answer, next}
+use Rattle.claims.specs.Rolls.{Entry, names, rest, each, unnamed, ticked, onb, givesb, takesb, prioritisesOrDeletesb, doneb, strikeOut, rolled, rollOf, lastsb, Waits, startRoll, Kept, Served}
 use Rattle.claims.proofs.Laws.Steps.{stepped, target, answer-is, next-sound}
 use Rattle.claims.proofs.Laws.Members
 use Rattle.claims.proofs.Laws.Serving
@@ -59,7 +59,7 @@ pub record Lasts (d : Kind) (n t : ℕ) (k : Kernel) (r : List Entry) : Type 0 w
 not-waits : {P : Type 0} {s : Success} → s ≡ done → s ≡ waits → P
 not-waits a b = absurd (let z : _≡_ {A = ℕ} 0 1 = cc in omega arith)
 
-module _ (d : Kind) (o : rolledb d ≡ true) (n t : ℕ) (k : Kernel) (r : List Entry) (L : Lasts d n t k r) (m : Made) where
+module _ (d : Kind) (o : rolledb d ≡ true) (n t : ℕ) (k : Kernel) (r : List Entry) (L : Lasts d n t k r) (m : Request) where
   abbrev F : Fit k
   F = L .sound .fit
 
@@ -117,9 +117,9 @@ module _ (d : Kind) (o : rolledb d ≡ true) (n t : ℕ) (k : Kernel) (r : List 
     left fs q s f = subst (λ (l : List Edit). Members.Leaves p k x (movers (leavesb p) l) (counted l)) q (Serving.leaves-done p waiters k F (m .number) (target m) e P s f)
 
     -- ---- with 0x00
-    module _ (z : e .success ≡ done) (calm : upsetsb d n m ≡ false) where
+    module _ (z : e .success ≡ done) (kept-order : prioritisesOrDeletesb d n m ≡ false) where
       left-by : (fs : List Edit) → es ≡ fs → Members.Leaves p k x (movers (leavesb p) fs) (counted fs)
-      left-by fs q = left fs q (subst (λ (s : Success). Shape s es) z (P .shape)) (Serving.all-unranked d n low m calm es (P .may))
+      left-by fs q = left fs q (subst (λ (s : Success). Shape s es) z (P .shape)) (Serving.all-unranked d n low m kept-order es (P .may))
 
       first-passes : givesb d n m ≡ true → Members.Passes p k x r (rest r)
       unfolding movers counted leavesb
@@ -155,10 +155,10 @@ module _ (d : Kind) (o : rolledb d ≡ true) (n t : ℕ) (k : Kernel) (r : List 
           let taken : takesb d n m ≡ false = by-test (takesb d n m) (λ y. not-waits z (Serving.takes-at d n low m k e R y .waits o t taker)) (λ y. y) in
           by-test (onb n m (rowOf d .empties))
           (λ y. Members.passes-same p k x r (left-by [] (Serving.empties-at d n low m k e R y t taker)) (L .rolls))
-          (λ y. Members.passes-same p k x r (let (a, b) = Serving.nobody-leaves d n low m calm g taken y i j es (P .may) in rw (a, b) at (left-by es refl)) (L .rolls))
+          (λ y. Members.passes-same p k x r (let (a, b) = Serving.nobody-leaves d n low m kept-order g taken y i j es (P .may) in rw (a, b) at (left-by es refl)) (L .rolls))
 
-      done-passes : Members.Passes p k x r (struck d n m r)
-      unfolding struck
+      done-passes : Members.Passes p k x r (strikeOut d n m r)
+      unfolding strikeOut
       done-passes =
           by-choice (Members.Passes p k x r) (givesb d n m) _ _ first-passes
           (λ g. by-choice (Members.Passes p k x r) (eqb (m .number) 5 || eqb (m .number) 10) _ _ named-passes
@@ -194,11 +194,11 @@ module _ (d : Kind) (o : rolledb d ≡ true) (n t : ℕ) (k : Kernel) (r : List 
     starts-passes v stops s q z = never s refl
     starts-passes v (turns f g) s q z = never s refl
 
-    carried-passes : (s : Success) → e .success ≡ s → (eqb (statusOf s) 0 ≡ true → upsetsb d n m ≡ false) → Members.Passes p k x r (if eqb (statusOf s) 0 then struck d n m r else r)
+    carried-passes : (s : Success) → e .success ≡ s → (eqb (statusOf s) 0 ≡ true → prioritisesOrDeletesb d n m ≡ false) → Members.Passes p k x r (if eqb (statusOf s) 0 then strikeOut d n m r else r)
     unfolding statusOf
-    carried-passes done z calm = done-passes z (calm refl)
-    carried-passes lifted z calm = lifted-passes z
-    carried-passes waits z calm = let (v, w, s, q) = subst (λ (y : Success). Shape y es) z (P .shape) in starts-passes v w s q z
+    carried-passes done z kept-order = done-passes z (kept-order refl)
+    carried-passes lifted z kept-order = lifted-passes z
+    carried-passes waits z kept-order = let (v, w, s, q) = subst (λ (y : Success). Shape y es) z (P .shape) in starts-passes v w s q z
 
     -- the thread that is served holds 0x00 and what the call gives
     served-holds : (words : List ℕ) → e ≡ does (moves (firstAt (k .scheduler) p) (ends (served d n) words) ∷ []) → firstAt (k .scheduler) p ≡ t → heldAt x t ≡ holding Statuses.success words
@@ -214,12 +214,12 @@ module _ (d : Kind) (o : rolledb d ≡ true) (n t : ℕ) (k : Kernel) (r : List 
 
   -- the roll after an outcome
   abbrev Follows : Outcome → Type 0
-  Follows y = Members.Passes p k (y .kernel) r (if eqb (y .status) 0 then struck d n m r else r)
+  Follows y = Members.Passes p k (y .kernel) r (if eqb (y .status) 0 then strikeOut d n m r else r)
 
-  step-passes : (y : Outcome) → StepTo y → (eqb (y .status) 0 ≡ true → upsetsb d n m ≡ false) → Follows y
+  step-passes : (y : Outcome) → StepTo y → (eqb (y .status) 0 ≡ true → prioritisesOrDeletesb d n m ≡ false) → Follows y
   unfolding refused carriedOut
-  step-passes y (refuses s z q) calm = subst Follows (sym q) (rw z (record { rolls = L .rolls; gone = λ u c i. absurd (omega (arith, c, i)); held = λ u c. refl }))
-  step-passes y (carries e q P R) calm = subst Follows (sym q) (carried-passes e P R (e .success) refl (λ z. calm (ap (λ (w : Outcome). eqb (w .status) 0) q ∙ z)))
+  step-passes y (refuses s z q) kept-order = subst Follows (sym q) (rw z (record { rolls = L .rolls; gone = λ u c i. absurd (omega (arith, c, i)); held = λ u c. refl }))
+  step-passes y (carries e q P R) kept-order = subst Follows (sym q) (carried-passes e P R (e .success) refl (λ z. kept-order (ap (λ (w : Outcome). eqb (w .status) 0) q ∙ z)))
 
   -- no taking call is served
   taking-undone : takesb d n m ≡ true → (y : Outcome) → StepTo y → eqb (y .status) 0 ≡ false
@@ -248,19 +248,19 @@ module _ (d : Kind) (o : rolledb d ≡ true) (n t : ℕ) (k : Kernel) (r : List 
         let h = ap (λ (y : Answer). heldAt (y .kernel) t) is ∙ giving-holds g first (stepped k m) st (sym (ap (λ (y : Answer). eqb (y .status) 0) is) ∙ z) in
         record { status = ap (λ (y : Held). y .status) h; words = ap (λ (y : Held). y .words) h }
 
-    module _ (calm : (upsetsb d n m && doneb (answer k m)) ≡ false) where
+    module _ (kept-order : (prioritisesOrDeletesb d n m && doneb (answer k m)) ≡ false) where
       next-passes : Members.Passes p k (next k m) r (rolled d n m (answer k m) r)
       unfolding next rolled doneb answerOf
       next-passes =
-          subst (λ (y : Answer). Members.Passes p k (y .kernel) r (if eqb (y .status) 0 then struck d n m r else r)) (sym is)
+          subst (λ (y : Answer). Members.Passes p k (y .kernel) r (if eqb (y .status) 0 then strikeOut d n m r else r)) (sym is)
           (step-passes (stepped k m) st
-          (λ y. by-test (upsetsb d n m) (λ u. never (and-in (upsetsb d n m) (doneb (answer k m)) u (ap doneb is ∙ y)) calm) (λ u. u)))
+          (λ y. by-test (prioritisesOrDeletesb d n m) (λ u. never (and-in (prioritisesOrDeletesb d n m) (doneb (answer k m)) u (ap doneb is ∙ y)) kept-order) (λ u. u)))
 
       pub kept : Kept d n m r (answer k m)
       unfolding next
       kept = record { begins = next-passes .rolls .begins; gone = next-passes .gone }
 
-      -- the wait goes on where the thread is not struck out
+      -- the wait goes on where the thread is not strikeOut out
       pub next-lasts : lastsb t (rolled d n m (answer k m) r) ≡ true → Lasts d n t (next k m) (rolled d n m (answer k m) r)
       unfolding lastsb
       next-lasts w =

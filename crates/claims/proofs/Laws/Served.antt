@@ -39,7 +39,7 @@ use Rattle.kernel.specs.Effects.{waitedb}
 use Rattle.kernel.proofs.Laws.Objects
 use Rattle.kernel.proofs.Laws.Fits
 use Rattle.kernel.proofs.Laws.Lines
-use Rattle.kernel.proofs.Laws.Fates
+use Rattle.kernel.proofs.Laws.Changes
 use Rattle.kernel.proofs.Laws.Does
 use Rattle.claims.specs.Accounts.{servedb}
 
@@ -166,14 +166,14 @@ module _ (d : Kind) (n : ℕ) (k : Kernel) (F : Fit k) where
     -- who does not move is not served
     other-unserved : (u : ℕ) → placedb p (threadOf k u) ≡ true → count u (movers anyb (e .edits)) ≡ 0 → servedb x u ≡ false
     other-unserved u w z =
-        let y = ap (λ (h : Held). h .status) (Does.chosen-kept k number a e P u .held ∙ Fates.kept-all k (F .steady) (e .edits) (P .firm) u z .held) in
+        let y = ap (λ (h : Held). h .status) (Does.chosen-kept k number a e P u .held ∙ Changes.kept-all k (F .steady) (e .edits) (P .requires) u z .held) in
         unserved x u (λ q. let s = waiter-status u w in omega (arith, q, s, y))
 
-    went : (u : ℕ) → (count u (movers anyb (e .edits)) ≡ 0 → ⊥) → Fates.Went k (applied k (e .edits)) (e .edits) u
-    went u z = Fates.went k (F .steady) (F .heldSized) (e .edits) (P .firm) u (let o = P .once u in by-eq (count u (movers anyb (e .edits))) 1 (λ y. y) (λ y. absurd (z (omega (arith, o, y)))))
+    moved-once : (u : ℕ) → (count u (movers anyb (e .edits)) ≡ 0 → ⊥) → Changes.MovedOnce k (applied k (e .edits)) (e .edits) u
+    moved-once u z = Changes.moved-once k (F .steady) (F .heldSized) (e .edits) (P .requires) u (let o = P .once u in by-eq (count u (movers anyb (e .edits))) 1 (λ y. y) (λ y. absurd (z (omega (arith, o, y)))))
 
     -- who moves is served where its move says so
-    mover-served : (u : ℕ) → placedb p (threadOf k u) ≡ true → (W : Fates.Went k (applied k (e .edits)) (e .edits) u) → servedb x u ≡ not (apartb p (moves u (W .move)))
+    mover-served : (u : ℕ) → placedb p (threadOf k u) ≡ true → (W : Changes.MovedOnce k (applied k (e .edits)) (e .edits) u) → servedb x u ≡ not (apartb p (moves u (W .move)))
     mover-served u w W =
         let K = Does.chosen-kept k number a e P u in
         moved-served p (Objects.state-low d) x u (W .move) (threadOf (W .at) u) (heldAt (W .at) u)
@@ -187,7 +187,7 @@ module _ (d : Kind) (n : ℕ) (k : Kernel) (F : Fit k) where
     pub later-apart : allb (apartb p) (e .edits) ≡ true → later d n k x ≡ 0
     later-apart all =
         filter-none (servedb x) line
-        (λ u c. by-eq (count u (movers anyb (e .edits))) 0 (other-unserved u (here u c)) (λ z. let W = went u z in mover-served u (here u c) W ∙ ap not (W .among (apartb p) all)))
+        (λ u c. by-eq (count u (movers anyb (e .edits))) 0 (other-unserved u (here u c)) (λ z. let W = moved-once u z in mover-served u (here u c) W ∙ ap not (W .among (apartb p) all)))
 
     -- the only edit serves the first
     pub later-first : (words : List ℕ) → waitedb k d n ≡ true → e .edits ≡ moves (firstAt (k .scheduler) p) (ends (served d n) words) ∷ [] → later d n k x ≡ 1
@@ -195,7 +195,7 @@ module _ (d : Kind) (n : ℕ) (k : Kernel) (F : Fit k) where
     later-first words f q =
         let t = first line in
         let counts : (u : ℕ) → count u (movers anyb (e .edits)) ≡ count u (t ∷ []) = λ u. ap (λ (es : List Edit). count u (movers anyb es)) q in
-        let W = went t (λ z. let c = counts t in let h = Lists.count-here t [] in omega (arith, z, c, h)) in
+        let W = moved-once t (λ z. let c = counts t in let h = Lists.count-here t [] in omega (arith, z, c, h)) in
         let one = W .among (λ y. not (apartb p y)) (ap (allb (λ y. not (apartb p y))) q ∙ rw (Lines.place-same p p refl)) in
         filter-first (servedb x) line (ltb-true t 32 f) (Orders.line-once (k .scheduler) (F .steady) t p)
         (mover-served t (first-placed (k .scheduler) p (ltb-true t 32 f)) W ∙ one)

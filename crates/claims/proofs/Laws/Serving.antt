@@ -31,10 +31,10 @@ use Rattle.kernel.specs.Effects.{Role, Takes, Gives, Taker, does, newOf}
 use Rattle.kernel.proofs.Laws.Objects
 use Rattle.kernel.proofs.Laws.Fits
 use Rattle.kernel.proofs.Laws.Lines
-use Rattle.kernel.proofs.Laws.Fates
+use Rattle.kernel.proofs.Laws.Changes
 use Rattle.kernel.proofs.Laws.Does
-use Rattle.claims.specs.Lists.{Made}
-use Rattle.claims.specs.Rolls.{onb, givesb, takesb, upsetsb}
+use Rattle.claims.specs.Lists.{Request}
+use Rattle.claims.specs.Rolls.{onb, givesb, takesb, prioritisesOrDeletesb}
 use Rattle.claims.proofs.Laws.Steps.{target}
 use Rattle.claims.proofs.Laws.Members
 
@@ -62,7 +62,7 @@ all-from f g h (e ∷ es) a = and-in (g e) (allb g es) (h e (and-left (f e) (all
 -- ---- the line of waiters after a call that is carried out
 module _ (p : Place) (waiters : 4 < p .state) where
   -- who stands there and does not leave is not moved
-  unmoved : (k : Kernel) (e : Edit) → Fits.Firm k e → (u : ℕ) → placedb p (threadOf k u) ≡ true → count u (movers (leavesb p) (e ∷ [])) ≡ 0 → count u (movers anyb (e ∷ [])) ≡ 0
+  unmoved : (k : Kernel) (e : Edit) → Fits.Requires k e → (u : ℕ) → placedb p (threadOf k u) ≡ true → count u (movers (leavesb p) (e ∷ [])) ≡ 0 → count u (movers anyb (e ∷ [])) ≡ 0
   unfolding movers
   unmoved k (moves t m) G u y z =
       by-test (leavesb p m) (λ l. rw l at z)
@@ -76,14 +76,14 @@ module _ (p : Place) (waiters : 4 < p .state) where
   unmoved k (sets c) G u y z = z
 
   -- and keeps what it holds, in tables y that differ by the choice
-  kept-all : (k y : Kernel) → Steady (k .scheduler) → (es : List Edit) → Fits.Firms k es → (u : ℕ) → Fates.Kept (applied k es) y u 0 → placedb p (threadOf k u) ≡ true → count u (movers (leavesb p) es) ≡ 0 → Fates.Kept k y u (count u (counted es))
+  kept-all : (k y : Kernel) → Steady (k .scheduler) → (es : List Edit) → Fits.RequiresAll k es → (u : ℕ) → Changes.Kept (applied k es) y u 0 → placedb p (threadOf k u) ≡ true → count u (movers (leavesb p) es) ≡ 0 → Changes.Kept k y u (count u (counted es))
   unfolding applied counted
   kept-all k y S [] G u C h z = rw (Less.count-none u) C
   kept-all k y S (e ∷ es) G u C h z =
-      let c = Fates.movers-count (leavesb p) e es u in
-      let a = Fates.kept-all k S (e ∷ []) (G .0, tt) u (unmoved k e (G .0) u h (omega (arith, c, z))) in
+      let c = Changes.movers-count (leavesb p) e es u in
+      let a = Changes.kept-all k S (e ∷ []) (G .0, tt) u (unmoved k e (G .0) u h (omega (arith, c, z))) in
       rw (ap (count u) (Members.counted-append (e ∷ []) es) ∙ Lists.count-append u (counted (e ∷ [])) (counted es))
-      (Fates.kept-then k (edited k e) y u _ _ a
+      (Changes.kept-then k (edited k e) y u _ _ a
       (kept-all (edited k e) y (Fits.steady-edit k S e (G .0)) es (G .1) u C (sym (Fits.placed-seen p waiters _) ∙ ap (placedb p) (a .seen) ∙ Fits.placed-seen p waiters _ ∙ h) (omega (arith, c, z))))
 
   module _ (k : Kernel) (F : Fit k) (n a : ℕ) (e : Effect) (P : Does.Proper k n a e) where
@@ -93,13 +93,13 @@ module _ (p : Place) (waiters : 4 < p .state) where
     abbrev x : Kernel
     x = carriedOut k e .kernel
 
-    kept : (u : ℕ) → 0 < count u (lineAt (k .scheduler) p) → count u (movers (leavesb p) es) ≡ 0 → Fates.Kept k x u (count u (counted es))
-    kept u c z = kept-all k x (F .steady) es (P .firm) u (Does.chosen-kept k n a e P u) (Fits.line-placed (k .scheduler) (F .steady) p u c) z
+    kept : (u : ℕ) → 0 < count u (lineAt (k .scheduler) p) → count u (movers (leavesb p) es) ≡ 0 → Changes.Kept k x u (count u (counted es))
+    kept u c z = kept-all k x (F .steady) es (P .requires) u (Does.chosen-kept k n a e P u) (Fits.line-placed (k .scheduler) (F .steady) p u c) z
 
     -- nobody begins to wait, and the line is not ranked
     pub leaves-done : allb Lines.unstartedb es ≡ true → allb (Lines.unrankedb p) es ≡ true → Members.Leaves p k x (movers (leavesb p) es) (counted es)
     leaves-done s r =
-        let line = Does.chosen-line k n a e P p ∙ Lines.waiters-after p waiters k (F .steady) es (P .firm) s r in
+        let line = Does.chosen-line k n a e P p ∙ Lines.waiters-after p waiters k (F .steady) es (P .requires) s r in
         record {
           line = ([], line ∙ sym (append-nil _));
           gone = λ u c. ap (count u) line ∙ Less.less-gone (movers (leavesb p) es) (lineAt (k .scheduler) p) u c;
@@ -112,15 +112,15 @@ module _ (p : Place) (waiters : 4 < p .state) where
     leaves-none t front state object ticks h q back =
         let l = lineAt (k .scheduler) p in
         let b = placedb p (inState state object ticks (threadOf k t)) in
-        let away = Lines.away p waiters (starts front state object ticks h) (threadOf k t) (subst (Fits.Firms k) q (P .firm) .0 .was) refl in
+        let away = Lines.away p waiters (starts front state object ticks h) (threadOf k t) (subst (Fits.RequiresAll k) q (P .requires) .0 .was) refl in
         let same : without t l ≡ less [] l = Lists.without-none t l (Orders.line-count (k .scheduler) (F .steady) t p ∙ ap oneIf away) ∙ sym (Less.less-none l) in
-        let line = Does.chosen-line k n a e P p ∙ Lines.line-after k (F .steady) es (P .firm) p ∙ ap (λ (fs : List Edit). linesBy k fs p l) q in
+        let line = Does.chosen-line k n a e P p ∙ Lines.line-after k (F .steady) es (P .requires) p ∙ ap (λ (fs : List Edit). linesBy k fs p l) q in
         record {
           line = by-test front
               (λ f. ([], line ∙ rw (f, back f) (same ∙ sym (append-nil (less [] l)))))
               (λ f. (onlyIf b t, line ∙ rw f (ap (λ (ys : List ℕ). ys ++ onlyIf b t) same)));
           gone = λ u c. absurd (let z = Less.count-none u in omega (arith, c, z));
-          kept = λ u c z. subst (λ (fs : List Edit). Fates.Kept k x u (count u (counted fs))) q (kept u c (ap (λ (fs : List Edit). count u (movers (leavesb p) fs)) q ∙ Less.count-none u));
+          kept = λ u c z. subst (λ (fs : List Edit). Changes.Kept k x u (count u (counted fs))) q (kept u c (ap (λ (fs : List Edit). count u (movers (leavesb p) fs)) q ∙ Less.count-none u));
         }
 
 -- ---- the calls of an object
@@ -145,7 +145,7 @@ unfolding oneOf
 own-kind d n [] own o = never o refl
 own-kind d n (i ∷ l) own o = by-test (eqb n i) (λ e. rw (eqb-true n i e) (own .0)) (λ e. own-kind d n l (own .1) (or-rest (eqb n i) (oneOf n l) o e))
 
-module _ (d : Kind) (n : ℕ) (small : n < sizeOf d) (m : Made) where
+module _ (d : Kind) (n : ℕ) (small : n < sizeOf d) (m : Request) where
   -- its target is the object
   on-target : (l : List ℕ) → Own d l → onb n m l ≡ true → (target m ≡ n) × (oneOf (m .number) l ≡ true)
   unfolding onb
@@ -192,10 +192,10 @@ module _ (d : Kind) (n : ℕ) (small : n < sizeOf d) (m : Made) where
       (λ s. s)
 
   -- where the object is not prioritised or deleted
-  module _ (calm : upsetsb d n m ≡ false) where
+  module _ (kept-order : prioritisesOrDeletesb d n m ≡ false) where
     unranked : (e : Edit) → mayb (m .number) (target m) e ≡ true → Lines.unrankedb p e ≡ true
-    unfolding mayb Lines.unrankedb upsetsb
-    unranked (ranks c i) y = ap not (elsewhere c i (λ b. rowOf b .prioritises) (own-row d .4) (or-false _ _ calm .0) (and-left _ _ y) (and-right (eqb i (target m)) _ y))
+    unfolding mayb Lines.unrankedb prioritisesOrDeletesb
+    unranked (ranks c i) y = ap not (elsewhere c i (λ b. rowOf b .prioritises) (own-row d .4) (or-false _ _ kept-order .0) (and-left _ _ y) (and-right (eqb i (target m)) _ y))
     unranked (moves t x) y = refl
     unranked (alters t f) y = refl
     unranked (counts t) y = refl
@@ -208,7 +208,7 @@ module _ (d : Kind) (n : ℕ) (small : n < sizeOf d) (m : Made) where
     -- and nobody is served there, terminated, aborted or timed out, nobody leaves
     module _ (g : givesb d n m ≡ false) (t : takesb d n m ≡ false) (z : onb n m (rowOf d .empties) ≡ false) (other : (eqb (m .number) 5 || eqb (m .number) 10) ≡ false) (untimed : eqb (m .number) 15 ≡ false) where
       stays : (u : ℕ) (x : Move) → mayMoveb (m .number) (target m) u x ≡ true → leavesb p x ≡ false
-      unfolding mayMoveb leavesb givesb takesb upsetsb
+      unfolding mayMoveb leavesb givesb takesb prioritisesOrDeletesb
       stays u (ends (served c i) words) y =
           let a = and-left (eqb i (target m)) _ y in
           by-test (oneOf (m .number) (rowOf c .gives))
@@ -216,7 +216,7 @@ module _ (d : Kind) (n : ℕ) (small : n < sizeOf d) (m : Made) where
           (λ w. by-test (oneOf (m .number) (rowOf c .takes))
           (λ v. elsewhere c i (λ b. rowOf b .takes) (own-row d .0) t a v)
           (λ v. elsewhere c i (λ b. rowOf b .empties) (own-row d .2) z a (rw (w, v) at (and-right (eqb i (target m)) _ y))))
-      stays u (ends (deleted c i) words) y = elsewhere c i (λ b. rowOf b .deletes) (own-row d .3) (or-false (onb n m (rowOf d .prioritises)) _ calm .1) (and-left _ _ y) (and-right (eqb i (target m)) _ y)
+      stays u (ends (deleted c i) words) y = elsewhere c i (λ b. rowOf b .deletes) (own-row d .3) (or-false (onb n m (rowOf d .prioritises)) _ kept-order .1) (and-left _ _ y) (and-right (eqb i (target m)) _ y)
       stays u (ends timedOut words) y = never y untimed
       stays u (ends aborted words) y = never (and-left (eqb (m .number) 10) _ y) (or-false (eqb (m .number) 5) _ other .1)
       stays u (starts front state object ticks h) y = refl

@@ -13,17 +13,17 @@ use Rattle.kernel.proofs.Laws.Claims.{claims}
 use Rattle.kernel.specs.Roles.{limitOf}
 use Rattle.kernel.proofs.Laws.Does.{Step}
 use Rattle.kernel.proofs.Laws.Services.{step-does}
-use Rattle.claims.specs.Lists.{Made, answer, next}
+use Rattle.claims.specs.Lists.{Request, answer, next}
 
 -- its step
-abbrev pub stepped : Kernel → Made → Outcome
+abbrev pub stepped : Kernel → Request → Outcome
 stepped k m = General.step k (m .number) (m .caller) (m .a) (m .b) (m .c) (m .d) (m .messages)
 
 -- its first argument, past the last number of an object or thread the one that stands for none
-abbrev pub target : Made → ℕ
+abbrev pub target : Request → ℕ
 target m = min (m .a) (limitOf (m .number))
 
-module _ (k : Kernel) (S : Sound k) (m : Made) where
+module _ (k : Kernel) (S : Sound k) (m : Request) where
   -- on sound tables the general call is the step
   pub answer-is : answer k m ≡ answerOf (stepped k m)
   unfolding answer General.call
@@ -33,5 +33,5 @@ module _ (k : Kernel) (S : Sound k) (m : Made) where
   unfolding next answerOf
   next-sound = subst (λ (x : Answer). Sound (x .kernel)) (sym answer-is) (claims .stepSound k S (m .number) (m .caller) (m .a) (m .b) (m .c) (m .d) (m .messages))
 
-  pub made-step : Step k (m .number) (target m) (m .b) (m .c) (m .messages) (stepped k m)
-  made-step = step-does k (m .number) (m .caller) (m .a) (m .b) (m .c) (m .d) (m .messages) S
+  pub request-step : Step k (m .number) (target m) (m .b) (m .c) (m .messages) (stepped k m)
+  request-step = step-does k (m .number) (m .caller) (m .a) (m .b) (m .c) (m .d) (m .messages) S

@@ -31,7 +31,7 @@ step-does k S n a b c messages o (Steps.carries e is P role) =
       is = is;
       may = P .may;
       once = P .once;
-      line = λ p. ap (λ (x : Outcome). lineAt (x .kernel .scheduler) p) is ∙ Steps.chosen-line k n a e P p ∙ Lines.line-after k (S .fit .steady) (e .edits) (P .firm) p;
+      line = λ p. ap (λ (x : Outcome). lineAt (x .kernel .scheduler) p) is ∙ Steps.chosen-line k n a e P p ∙ Lines.line-after k (S .fit .steady) (e .edits) (P .requires) p;
       role = role;
     })
 

@@ -29,7 +29,7 @@ use Rattle.kernel.specs.Effects.{Role}
 use Rattle.kernel.proofs.Laws.Objects
 use Rattle.kernel.proofs.Laws.Fits
 use Rattle.kernel.proofs.Laws.Lines
-use Rattle.kernel.proofs.Laws.Fates
+use Rattle.kernel.proofs.Laws.Changes
 
 -- ---- one call
 -- with 0x101 the caller waits and nothing else happens, with 0x19 one record changes, with 0x00 nobody begins to wait
@@ -38,10 +38,10 @@ Shape done es = allb Lines.unstartedb es ≡ true
 Shape lifted es = (t : ℕ) × (f : Thread → Thread) × (es ≡ alters t f ∷ [])
 Shape waits es = (t : ℕ) × (m : Move) × (startsb m ≡ true) × (es ≡ moves t m ∷ [])
 
--- an effect of the call of number n with first argument a: each edit is firm, the tables are sound but for the runner at the end, nobody
+-- an effect of the call of number n with first argument a: what each edit requires holds, the tables are sound but for the runner at the end, nobody
 -- moves twice, and the edits are such as a call of that number may do
 pub record Proper (k : Kernel) (n a : ℕ) (e : Effect) : Type 0 where
-  pub firm : Fits.Firms k (e .edits)
+  pub requires : Fits.RequiresAll k (e .edits)
   pub fit : Fit (applied k (e .edits))
   pub once : (u : ℕ) → count u (movers anyb (e .edits)) ≤ 1
   pub may : allb (mayb n a) (e .edits) ≡ true
@@ -112,7 +112,7 @@ module _ (k : Kernel) (n a : ℕ) (e : Effect) (P : Proper k n a e) where
   unfolding withMark
   mark-ticks b th = refl
 
-  pub chosen-kept : (u : ℕ) → Fates.Kept (applied k (e .edits)) x u 0
+  pub chosen-kept : (u : ℕ) → Changes.Kept (applied k (e .edits)) x u 0
   unfolding carriedOut withScheduler heldAt
   chosen-kept u =
       record {

@@ -39,7 +39,7 @@ use Rattle.kernel.proofs.Laws.Objects
 use Rattle.waiting.proofs.Laws.Held
 use Rattle.kernel.proofs.Laws.Fits
 use Rattle.kernel.proofs.Laws.Lines
-use Rattle.kernel.proofs.Laws.Fates
+use Rattle.kernel.proofs.Laws.Changes
 use Rattle.kernel.proofs.Laws.Does
 
 -- ---- roles
@@ -168,13 +168,13 @@ once-one (sets c) u = omega arith
 module _ (k : Kernel) (F : Fit k) (n a : ℕ) where
   pub proper-none : (words : List ℕ) → Does.Proper k n a (gives words [])
   unfolding applied movers count allb
-  proper-none words = record { firm = tt; fit = F; once = λ u. omega arith; may = refl; shape = refl }
+  proper-none words = record { requires = tt; fit = F; once = λ u. omega arith; may = refl; shape = refl }
 
-  pub proper-one : (s : Success) (words : List ℕ) (b : Bool) (e : Edit) → Fits.Firm k e → Fits.Fine k e → mayb n a e ≡ true → Does.Shape s (e ∷ [])
+  pub proper-one : (s : Success) (words : List ℕ) (b : Bool) (e : Edit) → Fits.Requires k e → Fits.KeepsFit k e → mayb n a e ≡ true → Does.Shape s (e ∷ [])
       → Does.Proper k n a (record { success = s; words = words; relinquishes = b; edits = e ∷ [] })
   unfolding allb
   proper-one s words b e A G m shape =
-      record { firm = (A, tt); fit = Fits.fit-all k F (e ∷ []) ((A, G), tt); once = once-one e; may = and-in (mayb n a e) true m refl; shape = shape }
+      record { requires = (A, tt); fit = Fits.fit-all k F (e ∷ []) ((A, G), tt); once = once-one e; may = and-in (mayb n a e) true m refl; shape = shape }
 
   -- a thread does not wait, before or after
   pub proper-turn : (t : ℕ) (f : Thread → Thread) (g : Held → Held) (words : List ℕ) (b : Bool) → t < 32 → pausedb (threadOf k t) ≡ false → fitb (f (threadOf k t)) ≡ true → f (threadOf k t) .state < 4
@@ -306,17 +306,17 @@ module _ (c : Cause) (words : List ℕ) where
     ended = applied k (endsEach c words xs)
 
     -- who waits on an object afterwards is none of them, and waits as before
-    pub each-left : (d : Kind) (u : ℕ) → waitsOnb (stateOn d) (threadOf ended u) ≡ true → (count u xs ≡ 0) × Fates.Kept k ended u 0
+    pub each-left : (d : Kind) (u : ℕ) → waitsOnb (stateOn d) (threadOf ended u) ≡ true → (count u xs ≡ 0) × Changes.Kept k ended u 0
     unfolding Lines.unstartedb startsb
     each-left d u w =
-        let firm = Fits.firms-of k (endsEach c words xs) (fits-each k F xs once was) in
+        let requires = Fits.requires-of k (endsEach c words xs) (fits-each k F xs once was) in
         let moved = ap (count u) (movers-each anyb xs refl) in
         by-eq (count u xs) 0
-        (λ z. (z, rw (← Less.count-none u, ← counted-each xs) (Fates.kept-all k (F .steady) (endsEach c words xs) firm u (moved ∙ z))))
+        (λ z. (z, rw (← Less.count-none u, ← counted-each xs) (Changes.kept-all k (F .steady) (endsEach c words xs) requires u (moved ∙ z))))
         (λ z. let o = once u in
         let q : count u xs ≡ 1 = omega (arith, z, o) in
-        let g = Fates.went k (F .steady) (F .heldSized) (endsEach c words xs) firm u (moved ∙ q) in
-        never w (Fates.went-waits k ended (endsEach c words xs) u g (Lines.not-no (startsb (g .move)) (g .among Lines.unstartedb (all-each Lines.unstartedb xs (λ t. refl)))) d))
+        let g = Changes.moved-once k (F .steady) (F .heldSized) (endsEach c words xs) requires u (moved ∙ q) in
+        never w (Changes.moved-once-waits k ended (endsEach c words xs) u g (Lines.not-no (startsb (g .move)) (g .among Lines.unstartedb (all-each Lines.unstartedb xs (λ t. refl)))) d))
 
     -- and then an object gets another record
     pub proper-each : (n a : ℕ) (d : Kind) (i : ℕ) (x : Object d) (out : List ℕ) → Fits.Stored d ended i x → ((t : ℕ) → mayMoveb n a t (ends c words) ≡ true) → mayb n a (stores d i x) ≡ true
@@ -326,7 +326,7 @@ module _ (c : Cause) (words : List ℕ) where
         let es = endsEach c words xs in
         let fits = fits-append k es (stores d i x ∷ []) (fits-each k F xs once was) ((tt, G), tt) in
         record {
-          firm = Fits.firms-of k (es ++ (stores d i x ∷ [])) fits;
+          requires = Fits.requires-of k (es ++ (stores d i x ∷ [])) fits;
           fit = Fits.fit-all k F (es ++ (stores d i x ∷ [])) fits;
           once = λ u. (let o = once u in let q = ap (count u) (Lines.movers-append anyb es (stores d i x ∷ []) ∙ append-nil (movers anyb es) ∙ movers-each anyb xs refl) in omega (arith, o, q));
           may = Lines.all-append (mayb n a) es (stores d i x ∷ []) (all-each (mayb n a) xs m) (and-in (mayb n a (stores d i x)) true s refl);

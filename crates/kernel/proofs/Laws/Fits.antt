@@ -69,17 +69,17 @@ pub record Altered (k : Kernel) (t : ℕ) (th : Thread) : Type 0 where
   pub placed : (p : Place) → placedb p th ≡ placedb p (threadOf k t)
   pub seen : seen th ≡ seen (threadOf k t)
 
-abbrev pub Firm : Kernel → Edit → Type 0
-Firm k (moves t m) = Moved k t m
-Firm k (alters t f) = Altered k t (f (threadOf k t)) × (f (threadOf k t) .ticks ≡ threadOf k t .ticks)
-Firm k (counts t) = (timedb (threadOf k t) ≡ true) × (lastTickb (threadOf k t) ≡ false)
-Firm k (ranks d n) = Unit {0}
-Firm k (stores d n x) = Unit {0}
-Firm k (sets c) = Unit {0}
+abbrev pub Requires : Kernel → Edit → Type 0
+Requires k (moves t m) = Moved k t m
+Requires k (alters t f) = Altered k t (f (threadOf k t)) × (f (threadOf k t) .ticks ≡ threadOf k t .ticks)
+Requires k (counts t) = (timedb (threadOf k t) ≡ true) × (lastTickb (threadOf k t) ≡ false)
+Requires k (ranks d n) = Unit {0}
+Requires k (stores d n x) = Unit {0}
+Requires k (sets c) = Unit {0}
 
-abbrev pub Firms : Kernel → List Edit → Type 0
-Firms k [] = Unit {0}
-Firms k (e ∷ es) = Firm k e × Firms (edited k e) es
+abbrev pub RequiresAll : Kernel → List Edit → Type 0
+RequiresAll k [] = Unit {0}
+RequiresAll k (e ∷ es) = Requires k e × RequiresAll (edited k e) es
 
 -- ---- timed waits
 module _ (th : Thread) (timed : timedb th ≡ true) where
@@ -139,7 +139,7 @@ joined-other s S false t th small u n = Orders.moved-other s S t th small u n
 steady-altered : (k : Kernel) → Steady (k .scheduler) → (t : ℕ) (th : Thread) → Altered k t th → Steady (withThread (k .scheduler) t th)
 steady-altered k S t th A = Orders.kept-steady (k .scheduler) S t th (A .small) (A .stands) (A .fit)
 
-pub steady-edit : (k : Kernel) → Steady (k .scheduler) → (e : Edit) → Firm k e → Steady (edited k e .scheduler)
+pub steady-edit : (k : Kernel) → Steady (k .scheduler) → (e : Edit) → Requires k e → Steady (edited k e .scheduler)
 unfolding edited withHeld withScheduler withClock
 steady-edit k S (moves t m) G = steady-joined (k .scheduler) S (frontb m) t (recordBy m (threadOf k t)) (G .small) (G .fit)
 steady-edit k S (alters t f) G = steady-altered k S t (f (threadOf k t)) (G .0)
@@ -162,11 +162,11 @@ wait-on k th h d s x e w =
     (Objects.same-kind d e (sym s ∙ eqb-true (th .state) (stateOn e) (and-right (th .created) _ w))) x
 
 -- a thread that begins to wait, or does not wait, may hold what it then holds
-abbrev pub FineMove : Kernel → ℕ → Move → Type 0
-FineMove k t (ends c words) = Unit {0}
-FineMove k t (starts front state object ticks h) = (heldFitb (inState state object ticks (threadOf k t)) h ≡ true) × MayWait k (inState state object ticks (threadOf k t)) h
-FineMove k t stops = threadOf k t .created ≡ true
-FineMove k t (turns f g) = (heldFitb (f (threadOf k t)) (g (heldAt k t)) ≡ true) × (f (threadOf k t) .state < 4)
+abbrev pub KeepsFitMove : Kernel → ℕ → Move → Type 0
+KeepsFitMove k t (ends c words) = Unit {0}
+KeepsFitMove k t (starts front state object ticks h) = (heldFitb (inState state object ticks (threadOf k t)) h ≡ true) × MayWait k (inState state object ticks (threadOf k t)) h
+KeepsFitMove k t stops = threadOf k t .created ≡ true
+KeepsFitMove k t (turns f g) = (heldFitb (f (threadOf k t)) (g (heldAt k t)) ≡ true) × (f (threadOf k t) .state < 4)
 
 -- an object gets a fit record, on which those who wait on it may wait
 pub record Stored (d : Kind) (k : Kernel) (n : ℕ) (x : Object d) : Type 0 where
@@ -174,22 +174,22 @@ pub record Stored (d : Kind) (k : Kernel) (n : ℕ) (x : Object d) : Type 0 wher
   pub fit : Kinds.objectFitb d x ≡ true
   pub free : (t : ℕ) → t < 32 → waitsOnb (stateOn d) (threadOf k t) ≡ true → threadOf k t .object ≡ n → Kinds.waitb d (heldAt k t) x ≡ true
 
-abbrev pub Fine : Kernel → Edit → Type 0
-Fine k (moves t m) = FineMove k t m
-Fine k (alters t f) = Unit {0}
-Fine k (counts t) = Unit {0}
-Fine k (ranks d n) = Unit {0}
-Fine k (stores d n x) = Stored d k n x
-Fine k (sets c) = Unit {0}
+abbrev pub KeepsFit : Kernel → Edit → Type 0
+KeepsFit k (moves t m) = KeepsFitMove k t m
+KeepsFit k (alters t f) = Unit {0}
+KeepsFit k (counts t) = Unit {0}
+KeepsFit k (ranks d n) = Unit {0}
+KeepsFit k (stores d n x) = Stored d k n x
+KeepsFit k (sets c) = Unit {0}
 
 -- each edit of a list on the tables that the last left
 abbrev pub Fits : Kernel → List Edit → Type 0
 Fits k [] = Unit {0}
-Fits k (e ∷ es) = (Firm k e × Fine k e) × Fits (edited k e) es
+Fits k (e ∷ es) = (Requires k e × KeepsFit k e) × Fits (edited k e) es
 
-pub firms-of : (k : Kernel) (es : List Edit) → Fits k es → Firms k es
-firms-of k [] G = tt
-firms-of k (e ∷ es) G = (G .0 .0, firms-of (edited k e) es (G .1))
+pub requires-of : (k : Kernel) (es : List Edit) → Fits k es → RequiresAll k es
+requires-of k [] G = tt
+requires-of k (e ∷ es) G = (G .0 .0, requires-of (edited k e) es (G .1))
 
 -- ---- who waits
 pub placed-state : (p : Place) (th : Thread) → placedb p th ≡ true → th .state ≡ p .state
@@ -316,7 +316,7 @@ pub thread-moved : (k : Kernel) → Fit k → (t : ℕ) (m : Move) → Moved k t
 unfolding edited withHeld withScheduler
 thread-moved k F t m G u n = joined-other (k .scheduler) (F .steady) (frontb m) t (recordBy m (threadOf k t)) (G .small) u n
 
-fit-move : (k : Kernel) → Fit k → (t : ℕ) (m : Move) → Moved k t m → FineMove k t m → Fit (edited k (moves t m))
+fit-move : (k : Kernel) → Fit k → (t : ℕ) (m : Move) → Moved k t m → KeepsFitMove k t m → Fit (edited k (moves t m))
 unfolding recordBy heldBy awake inState
 fit-move k F t (ends c words) A G =
     let made = States.paused-made (threadOf k t) (ends-paused c words (threadOf k t) (A .was)) in
@@ -368,7 +368,7 @@ fit-clock k F c =
       objects = λ d. Objects.same-objects d k (withClock k c) (Objects.table-clock k c d) (F .objects d);
     }
 
-pub fit-edit : (k : Kernel) → Fit k → (e : Edit) → Firm k e → Fine k e → Fit (edited k e)
+pub fit-edit : (k : Kernel) → Fit k → (e : Edit) → Requires k e → KeepsFit k e → Fit (edited k e)
 unfolding edited
 fit-edit k F (moves t m) A G = fit-move k F t m A G
 fit-edit k F (alters t f) A G = fit-altered k F t (f (threadOf k t)) (A .0)

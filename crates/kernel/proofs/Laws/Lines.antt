@@ -55,7 +55,7 @@ line-ranked s S q p =
 line-altered : (k : Kernel) → Steady (k .scheduler) → (t : ℕ) (th : Thread) → Fits.Altered k t th → (p : Place) → lineAt (withThread (k .scheduler) t th) p ≡ lineAt (k .scheduler) p
 line-altered k S t th A p = Orders.kept-line (k .scheduler) S t th (A .small) p (A .placed p)
 
-pub line-edit : (k : Kernel) → Steady (k .scheduler) → (e : Edit) → Fits.Firm k e → (p : Place) → lineAt (edited k e .scheduler) p ≡ lineBy k e p (lineAt (k .scheduler) p)
+pub line-edit : (k : Kernel) → Steady (k .scheduler) → (e : Edit) → Fits.Requires k e → (p : Place) → lineAt (edited k e .scheduler) p ≡ lineBy k e p (lineAt (k .scheduler) p)
 unfolding edited lineBy withHeld withScheduler withClock
 line-edit k S (moves t m) G p = line-joined (k .scheduler) S (frontb m) t (recordBy m (threadOf k t)) (G .small) (G .fit) p
 line-edit k S (alters t f) G p = line-altered k S t (f (threadOf k t)) (G .0) p
@@ -65,7 +65,7 @@ line-edit k S (stores d n x) G p = ap (λ (s : Scheduler). lineAt s p) (Objects.
 line-edit k S (sets c) G p = refl
 
 -- and all: what the line of any place is afterwards
-pub line-after : (k : Kernel) → Steady (k .scheduler) → (es : List Edit) → Fits.Firms k es → (p : Place) → lineAt (applied k es .scheduler) p ≡ linesBy k es p (lineAt (k .scheduler) p)
+pub line-after : (k : Kernel) → Steady (k .scheduler) → (es : List Edit) → Fits.RequiresAll k es → (p : Place) → lineAt (applied k es .scheduler) p ≡ linesBy k es p (lineAt (k .scheduler) p)
 unfolding applied linesBy
 line-after k S [] G p = refl
 line-after k S (e ∷ es) G p = line-after (edited k e) (Fits.steady-edit k S e (G .0)) es (G .1) p ∙ ap (linesBy (edited k e) es p) (line-edit k S e (G .0) p)
@@ -167,7 +167,7 @@ module _ (p : Place) (waiters : 4 < p .state) where
       (λ y. rw y (Lists.without-none t (lineAt (k .scheduler) p) (Orders.line-count (k .scheduler) S t p ∙ ap oneIf (away m (threadOf k t) w y)) ∙ sym (Less.less-none (lineAt (k .scheduler) p))))
 
   -- one edit
-  waiters-edit : (k : Kernel) → Steady (k .scheduler) → (e : Edit) → Fits.Firm k e → unstartedb e ≡ true → unrankedb p e ≡ true
+  waiters-edit : (k : Kernel) → Steady (k .scheduler) → (e : Edit) → Fits.Requires k e → unstartedb e ≡ true → unrankedb p e ≡ true
       → lineAt (edited k e .scheduler) p ≡ less (movers (leavesb p) (e ∷ [])) (lineAt (k .scheduler) p)
   unfolding lineBy movers unstartedb unrankedb
   waiters-edit k S (moves t m) G u r =
@@ -184,7 +184,7 @@ module _ (p : Place) (waiters : 4 < p .state) where
   nobody-left k = sym (Less.less-none (lineAt (k .scheduler) p))
 
   -- a line of waiters after edits that begin no wait and do not rank it: those who left it for a cause of that place are gone
-  pub waiters-after : (k : Kernel) → Steady (k .scheduler) → (es : List Edit) → Fits.Firms k es → allb unstartedb es ≡ true → allb (unrankedb p) es ≡ true
+  pub waiters-after : (k : Kernel) → Steady (k .scheduler) → (es : List Edit) → Fits.RequiresAll k es → allb unstartedb es ≡ true → allb (unrankedb p) es ≡ true
       → lineAt (applied k es .scheduler) p ≡ less (movers (leavesb p) es) (lineAt (k .scheduler) p)
   unfolding applied
   waiters-after k S [] G u r = nobody-left k

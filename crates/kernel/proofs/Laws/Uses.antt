@@ -35,7 +35,7 @@ use Rattle.kernel.specs.Roles.{rowOf, oneOf, kindOf, mayMoveb, mayb}
 use Rattle.kernel.specs.Effects.{does, closeEffect, rankEffect, serveEffect, waitedb, newOf, Taker}
 use Rattle.kernel.proofs.Laws.Objects
 use Rattle.kernel.proofs.Laws.Fits
-use Rattle.kernel.proofs.Laws.Fates
+use Rattle.kernel.proofs.Laws.Changes
 use Rattle.kernel.proofs.Laws.Does
 use Rattle.kernel.proofs.Laws.Effects
 
@@ -114,7 +114,7 @@ module _ (d : Kind) (k : Kernel) (F : Fit k) (i : ℕ) where
         small = small;
         fit = fit;
         free = λ t l w o. (let e = Effects.each-left c noWords k F line once wait d t w in
-            line-others t (e .0) (Fates.kept-waits k _ t 0 (e .1) (stateOn d) ∙ w) (Fates.kept-object k _ t 0 (e .1) ∙ o));
+            line-others t (e .0) (Changes.kept-waits k _ t 0 (e .1) (stateOn d) ∙ w) (Changes.kept-object k _ t 0 (e .1) ∙ o));
       })
       m s
 

@@ -144,7 +144,7 @@ module _ (k : Kernel) (b c : ℕ) (messages : List ℕ) (caller : ℕ) where
       let es = Effect.ticksBelow 32 k in
       let fits = Effects.fits-append k es (clock ∷ []) (below-fits k F 32) ((tt, tt), tt) in
       record {
-        firm = Fits.firms-of k (es ++ (clock ∷ [])) fits;
+        requires = Fits.requires-of k (es ++ (clock ∷ [])) fits;
         fit = Fits.fit-all k F (es ++ (clock ∷ [])) fits;
         once = λ u. (let o = below-once k 32 u .0 in let q = ap (count u) (Lines.movers-append anyb es (clock ∷ []) ∙ append-nil _ ∙ below-movers anyb refl k 32) in omega (arith, o, q));
         may = Lines.all-append (mayb 15 a) es (clock ∷ []) (below-all (mayb 15 a) (λ t. refl) (λ t. refl) k 32) refl;

@@ -37,7 +37,7 @@ use Rattle.kernel.specs.Effects.{does, begins}
 use Rattle.kernel.proofs.Laws.Objects
 use Rattle.waiting.proofs.Laws.Held
 use Rattle.kernel.proofs.Laws.Fits
-use Rattle.kernel.proofs.Laws.Fates
+use Rattle.kernel.proofs.Laws.Changes
 use Rattle.kernel.proofs.Laws.Does
 use Rattle.kernel.proofs.Laws.Effects
 use Rattle.kernel.proofs.Laws.Uses
@@ -107,8 +107,8 @@ module _ (k : Kernel) (b c : ℕ) (messages : List ℕ) (caller : ℕ) where
         small = small n S made;
         fit = with-fit left;
         free = λ t l w o. (let e = Effects.each-left (served group n) (oneWord flags) k F woken once was group t w in
-            let v = Fates.kept-waits k _ t 0 (e .1) 7 ∙ w in
-            let i = Fates.kept-object k _ t 0 (e .1) ∙ o in
+            let v = Changes.kept-waits k _ t 0 (e .1) 7 ∙ w in
+            let i = Changes.kept-object k _ t 0 (e .1) ∙ o in
             let unmet : met t ≡ false = by-test (met t)
             (λ m. absurd (let a = Lists.count-kept met t line m in
             let z = Orders.line-count (k .scheduler) (F .steady) t (placeOf group n) ∙ ap oneIf (Uses.waits-placed group k F n (threadOf k t) v i) in let y = e .0 in omega (arith, a, z, y)))

@@ -38,7 +38,7 @@ use Rattle.kernel.specs.Effects as Effect
 use Rattle.kernel.specs.Effects.{gives, does, begins, waitedb, Taker, Gives}
 use Rattle.kernel.proofs.Laws.Objects
 use Rattle.waiting.proofs.Laws.Held
-use Rattle.kernel.proofs.Laws.Fates
+use Rattle.kernel.proofs.Laws.Changes
 use Rattle.kernel.proofs.Laws.Does
 use Rattle.kernel.proofs.Laws.Effects
 use Rattle.kernel.proofs.Laws.Uses
@@ -204,7 +204,7 @@ module _ (k : Kernel) (b c : ℕ) (messages : List ℕ) (caller : ℕ) where
         small = small n S made;
         fit = Records.past-fit q (fit n S made) made front message;
         free = λ t l w o. (let e = Effects.each-left (served queue n) noWords k F (f ∷ []) once was queue t w .1 in
-            let v = Objects.waits-here queue k F n t l (Fates.kept-waits k _ t 0 e 5 ∙ w) (Fates.kept-object k _ t 0 e ∙ o) in
+            let v = Objects.waits-here queue k F n t l (Changes.kept-waits k _ t 0 e 5 ∙ w) (Changes.kept-object k _ t 0 e ∙ o) in
             let s = wait-sends (heldAt k t) q v some in
             let bl = wait-sender (heldAt k t) q v s in
             let full = and-left (fullb q) (blankFrom (q .words) (heldAt k t .message)) bl in

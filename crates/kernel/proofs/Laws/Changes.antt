@@ -68,7 +68,7 @@ kept-altered k S t th A e u =
       ticks = (let q = Orders.kept-all (k .scheduler) S t th (A .small) (λ x. x .ticks) e u in omega (arith, q));
     }
 
-kept-counted : (k : Kernel) → Steady (k .scheduler) → (t : ℕ) → Fits.Firm k (counts t) → (u : ℕ) → Kept k (edited k (counts t)) u (count u (t ∷ []))
+kept-counted : (k : Kernel) → Steady (k .scheduler) → (t : ℕ) → Fits.Requires k (counts t) → (u : ℕ) → Kept k (edited k (counts t)) u (count u (t ∷ []))
 unfolding edited withScheduler withTicks
 kept-counted k S t G u =
     let A = Fits.one-less k S t (G .0) (G .1) in
@@ -101,7 +101,7 @@ kept-clock : (k : Kernel) (c u : ℕ) → Kept k (withClock k c) u 0
 unfolding withClock heldAt
 kept-clock k c u = kept-same k (withClock k c) u refl refl
 
-kept-edit : (k : Kernel) → Steady (k .scheduler) → (e : Edit) → Fits.Firm k e → (u : ℕ) → count u (movers anyb (e ∷ [])) ≡ 0 → Kept k (edited k e) u (count u (counted (e ∷ [])))
+kept-edit : (k : Kernel) → Steady (k .scheduler) → (e : Edit) → Fits.Requires k e → (u : ℕ) → count u (movers anyb (e ∷ [])) ≡ 0 → Kept k (edited k e) u (count u (counted (e ∷ [])))
 unfolding edited movers counted count prioritisedAt withOrder threadAt heldAt
 kept-edit k S (moves t m) G u z = kept-moved k S t m G u (other-than u t [] z)
 kept-edit k S (alters t f) G u z = kept-altered k S t (f (threadOf k t)) (G .0) (G .1) u
@@ -128,7 +128,7 @@ none-moved : (u : ℕ) → count u (counted []) ≡ 0
 unfolding counted count
 none-moved u = refl
 
-pub kept-all : (k : Kernel) → Steady (k .scheduler) → (es : List Edit) → Fits.Firms k es → (u : ℕ) → count u (movers anyb es) ≡ 0 → Kept k (applied k es) u (count u (counted es))
+pub kept-all : (k : Kernel) → Steady (k .scheduler) → (es : List Edit) → Fits.RequiresAll k es → (u : ℕ) → count u (movers anyb es) ≡ 0 → Kept k (applied k es) u (count u (counted es))
 unfolding applied
 kept-all k S [] G u z = rw (none-moved u) (kept-self k u)
 kept-all k S (e ∷ es) G u z =
@@ -143,7 +143,7 @@ abbrev pub Among : ℕ → Move → List Edit → Type 0
 Among u m es = (f : Edit → Bool) → allb f es ≡ true → f (moves u m) ≡ true
 
 -- in tables y, where it is as it was, u moves in the way m, and so it is in tables x
-pub record Went (k x : Kernel) (es : List Edit) (u : ℕ) : Type 0 where
+pub record MovedOnce (k x : Kernel) (es : List Edit) (u : ℕ) : Type 0 where
   pub at : Kernel
   pub less : ℕ
   pub kept : Kept k at u less
@@ -176,9 +176,9 @@ moved-self k S z t m G = (
 )
 
 -- the edit that moves it is the first
-went-first : (k : Kernel) → Steady (k .scheduler) → length (k .held) ≡ 32 → (t : ℕ) (m : Move) (es : List Edit) → Fits.Firms k (moves t m ∷ es) → (u : ℕ) → u ≡ t → count u (movers anyb es) ≡ 0 → Went k (applied k (moves t m ∷ es)) (moves t m ∷ es) u
+moved-once-first : (k : Kernel) → Steady (k .scheduler) → length (k .held) ≡ 32 → (t : ℕ) (m : Move) (es : List Edit) → Fits.RequiresAll k (moves t m ∷ es) → (u : ℕ) → u ≡ t → count u (movers anyb es) ≡ 0 → MovedOnce k (applied k (moves t m ∷ es)) (moves t m ∷ es) u
 unfolding applied
-went-first k S z t m es G u e n =
+moved-once-first k S z t m es G u e n =
     let x = edited k (moves t m) in
     let rest = kept-all x (Fits.steady-edit k S (moves t m) (G .0)) es (G .1) u n in
     let self = moved-self k S z t m (G .0) in
@@ -194,9 +194,9 @@ went-first k S z t m es G u e n =
       seen = rest .seen ∙ rw e (ap Fits.seen (self .1));
     }
 
-went-later : (k : Kernel) (e : Edit) (es : List Edit) (u n : ℕ) → Kept k (edited k e) u n → Went (edited k e) (applied (edited k e) es) es u → Went k (applied k (e ∷ es)) (e ∷ es) u
+moved-once-later : (k : Kernel) (e : Edit) (es : List Edit) (u n : ℕ) → Kept k (edited k e) u n → MovedOnce (edited k e) (applied (edited k e) es) es u → MovedOnce k (applied k (e ∷ es)) (e ∷ es) u
 unfolding applied
-went-later k e es u n a W =
+moved-once-later k e es u n a W =
     record {
       at = W .at;
       less = n + W .less;
@@ -221,29 +221,29 @@ moved-here : (t u : ℕ) (m : Move) → u ≡ t → count u (movers anyb (moves 
 unfolding movers
 moved-here t u m e = let h = Lists.count-here t [] in let z = Less.count-none t in let y = ap (λ (v : ℕ). count v (t ∷ [])) e in omega (arith, h, z, y)
 
-went-head : (k : Kernel) → Steady (k .scheduler) → length (k .held) ≡ 32 → (e : Edit) (es : List Edit) → Fits.Firms k (e ∷ es) → (u : ℕ) → (count u (movers anyb (e ∷ [])) ≡ 0 → ⊥) → count u (movers anyb (e ∷ es)) ≡ 1 → Went k (applied k (e ∷ es)) (e ∷ es) u
+moved-once-head : (k : Kernel) → Steady (k .scheduler) → length (k .held) ≡ 32 → (e : Edit) (es : List Edit) → Fits.RequiresAll k (e ∷ es) → (u : ℕ) → (count u (movers anyb (e ∷ [])) ≡ 0 → ⊥) → count u (movers anyb (e ∷ es)) ≡ 1 → MovedOnce k (applied k (e ∷ es)) (e ∷ es) u
 unfolding movers
-went-head k S z (moves t m) es G u n c =
+moved-once-head k S z (moves t m) es G u n c =
     by-eq u t
-    (λ e. went-first k S z t m es G u e (let s = movers-count anyb (moves t m) es u in let h = moved-here t u m e in omega (arith, s, c, h)))
+    (λ e. moved-once-first k S z t m es G u e (let s = movers-count anyb (moves t m) es u in let h = moved-here t u m e in omega (arith, s, c, h)))
     (λ e. absurd (n (moved-first t u m e)))
-went-head k S z (alters t f) es G u n c = absurd (n (unmoved-first u))
-went-head k S z (counts t) es G u n c = absurd (n (unmoved-first u))
-went-head k S z (ranks d i) es G u n c = absurd (n (unmoved-first u))
-went-head k S z (stores d i x) es G u n c = absurd (n (unmoved-first u))
-went-head k S z (sets i) es G u n c = absurd (n (unmoved-first u))
+moved-once-head k S z (alters t f) es G u n c = absurd (n (unmoved-first u))
+moved-once-head k S z (counts t) es G u n c = absurd (n (unmoved-first u))
+moved-once-head k S z (ranks d i) es G u n c = absurd (n (unmoved-first u))
+moved-once-head k S z (stores d i x) es G u n c = absurd (n (unmoved-first u))
+moved-once-head k S z (sets i) es G u n c = absurd (n (unmoved-first u))
 
-pub went : (k : Kernel) → Steady (k .scheduler) → length (k .held) ≡ 32 → (es : List Edit) → Fits.Firms k es → (u : ℕ) → count u (movers anyb es) ≡ 1 → Went k (applied k es) es u
-went k S z [] G u c = absurd (let n = unmoved-first u in omega (arith, n, c))
-went k S z (e ∷ es) G u c =
+pub moved-once : (k : Kernel) → Steady (k .scheduler) → length (k .held) ≡ 32 → (es : List Edit) → Fits.RequiresAll k es → (u : ℕ) → count u (movers anyb es) ≡ 1 → MovedOnce k (applied k es) es u
+moved-once k S z [] G u c = absurd (let n = unmoved-first u in omega (arith, n, c))
+moved-once k S z (e ∷ es) G u c =
     by-eq (count u (movers anyb (e ∷ []))) 0
-    (λ n. went-later k e es u _ (kept-edit k S e (G .0) u n)
-    (went (edited k e) (Fits.steady-edit k S e (G .0)) (sized-edit k e z) es (G .1) u (let s = movers-count anyb e es u in omega (arith, s, c, n))))
-    (λ n. went-head k S z e es G u n c)
+    (λ n. moved-once-later k e es u _ (kept-edit k S e (G .0) u n)
+    (moved-once (edited k e) (Fits.steady-edit k S e (G .0)) (sized-edit k e z) es (G .1) u (let s = movers-count anyb e es u in omega (arith, s, c, n))))
+    (λ n. moved-once-head k S z e es G u n c)
 
 -- who moved and did not begin to wait waits on nothing
-pub went-waits : (k x : Kernel) (es : List Edit) (u : ℕ) (W : Went k x es u) → startsb (W .move) ≡ false → (d : Kind) → waitsOnb (stateOn d) (threadOf x u) ≡ false
-went-waits k x es u W n d =
+pub moved-once-waits : (k x : Kernel) (es : List Edit) (u : ℕ) (W : MovedOnce k x es u) → startsb (W .move) ≡ false → (d : Kind) → waitsOnb (stateOn d) (threadOf x u) ≡ false
+moved-once-waits k x es u W n d =
     let th = recordBy (W .move) (threadOf (W .at) u) in
     sym (Fits.waits-seen (stateOn d) (threadOf x u)) ∙ ap (waitsOnb (stateOn d)) (W .seen) ∙ Fits.waits-seen (stateOn d) th ∙ waits-nowhere (stateOn d) th (Objects.state-low d) (W .is ∙ n)
 
