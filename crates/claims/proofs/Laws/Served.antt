@@ -137,7 +137,7 @@ module _ (d : Kind) (n : ℕ) (k : Kernel) (F : Fit k) where
   held-fit : (u : ℕ) → placedb p (threadOf k u) ≡ true → heldFitb (threadOf k u) (heldAt k u) ≡ true
   held-fit u w = F .held u (States.created-small (k .scheduler) (F .steady) u (Fits.placed-made p (threadOf k u) w))
 
-  -- "each waiter or sleeper holds 0x101"
+  -- who waits holds 0x101
   waiter-status : (u : ℕ) → placedb p (threadOf k u) ≡ true → heldAt k u .status ≡ Statuses.waiting
   unfolding heldFitb statusFitb
   waiter-status u w =

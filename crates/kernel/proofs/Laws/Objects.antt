@@ -24,28 +24,26 @@ use Rattle.kernel.specs.Kinds.{Kind, Object, sizeOf, stateOn, tableOf, o
 use Rattle.kernel.specs.Kinds.Kind.{semaphore, queue, group, pool}
 use Rattle.kernel.specs.Sound.{Objects, MayWait, Fit}
 
+-- ---- what holds of each kind holds of all
+pub by-kind : (P : Kind → Type 0) → P semaphore → P queue → P group → P pool → (d : Kind) → P d
+by-kind P s q g p semaphore = s
+by-kind P s q g p queue = q
+by-kind P s q g p group = g
+by-kind P s q g p pool = p
+
 -- ---- kinds by the state of those who wait
 pub state-low : (d : Kind) → 4 < stateOn d
-state-low semaphore = omega arith
-state-low queue = omega arith
-state-low group = omega arith
-state-low pool = omega arith
+state-low = by-kind (λ d. 4 < stateOn d) (omega arith) (omega arith) (omega arith) (omega arith)
 
 pub state-known : (d : Kind) → stateOn d ≤ 8
-state-known semaphore = omega arith
-state-known queue = omega arith
-state-known group = omega arith
-state-known pool = omega arith
+state-known = by-kind (λ d. stateOn d ≤ 8) (omega arith) (omega arith) (omega arith) (omega arith)
 
 kindAt : ℕ → Kind
 kindAt state = if eqb state 5 then queue else if eqb state 6 then semaphore else if eqb state 7 then group else pool
 
 kind-at : (d : Kind) → kindAt (stateOn d) ≡ d
 unfolding kindAt
-kind-at semaphore = refl
-kind-at queue = refl
-kind-at group = refl
-kind-at pool = refl
+kind-at = by-kind (λ d. kindAt (stateOn d) ≡ d) refl refl refl refl
 
 pub same-kind : (d e : Kind) → stateOn d ≡ stateOn e → d ≡ e
 same-kind d e s = sym (kind-at d) ∙ ap kindAt s ∙ kind-at e
@@ -53,10 +51,7 @@ same-kind d e s = sym (kind-at d) ∙ ap kindAt s ∙ kind-at e
 -- ---- reads
 pub object-is : (d : Kind) (k : Kernel) (n : ℕ) → objectAt d k n ≡ getD (tableOf d k) n (noObject d)
 unfolding semaphoreAt queueAt groupAt poolAt
-object-is semaphore k n = refl
-object-is queue k n = refl
-object-is group k n = refl
-object-is pool k n = refl
+object-is d k n = by-kind (λ d. objectAt d k n ≡ getD (tableOf d k) n (noObject d)) refl refl refl refl d
 
 -- tables with the same records
 pub same-object : (d : Kind) (k x : Kernel) → tableOf d x ≡ tableOf d k → (n : ℕ) → objectAt d x n ≡ objectAt d k n
@@ -75,70 +70,40 @@ same-waits k x e th h W d w = ap (waitb d h) (same-object d k x (e d) (th .objec
 -- what is not stored in
 pub table-scheduler : (k : Kernel) (s : Scheduler) (d : Kind) → tableOf d (withScheduler k s) ≡ tableOf d k
 unfolding withScheduler
-table-scheduler k s semaphore = refl
-table-scheduler k s queue = refl
-table-scheduler k s group = refl
-table-scheduler k s pool = refl
+table-scheduler k s = by-kind (λ d. tableOf d (withScheduler k s) ≡ tableOf d k) refl refl refl refl
 
 pub table-held : (k : Kernel) (t : ℕ) (h : Held) (d : Kind) → tableOf d (withHeld k t h) ≡ tableOf d k
 unfolding withHeld
-table-held k t h semaphore = refl
-table-held k t h queue = refl
-table-held k t h group = refl
-table-held k t h pool = refl
+table-held k t h = by-kind (λ d. tableOf d (withHeld k t h) ≡ tableOf d k) refl refl refl refl
 
 pub table-clock : (k : Kernel) (c : ℕ) (d : Kind) → tableOf d (withClock k c) ≡ tableOf d k
 unfolding withClock
-table-clock k c semaphore = refl
-table-clock k c queue = refl
-table-clock k c group = refl
-table-clock k c pool = refl
+table-clock k c = by-kind (λ d. tableOf d (withClock k c) ≡ tableOf d k) refl refl refl refl
 
 -- ---- a store
 table-stored : (d : Kind) (k : Kernel) (n : ℕ) (x : Object d) → tableOf d (withObject d k n x) ≡ set (tableOf d k) n x
 unfolding withSemaphore withQueue withGroup withPool
-table-stored semaphore k n x = refl
-table-stored queue k n x = refl
-table-stored group k n x = refl
-table-stored pool k n x = refl
+table-stored d k n = by-kind (λ d. (x : Object d) → tableOf d (withObject d k n x) ≡ set (tableOf d k) n x) (λ x. refl) (λ x. refl) (λ x. refl) (λ x. refl) d
 
 pub stored-scheduler : (d : Kind) (k : Kernel) (n : ℕ) (x : Object d) → withObject d k n x .scheduler ≡ k .scheduler
 unfolding withSemaphore withQueue withGroup withPool
-stored-scheduler semaphore k n x = refl
-stored-scheduler queue k n x = refl
-stored-scheduler group k n x = refl
-stored-scheduler pool k n x = refl
+stored-scheduler d k n = by-kind (λ d. (x : Object d) → withObject d k n x .scheduler ≡ k .scheduler) (λ x. refl) (λ x. refl) (λ x. refl) (λ x. refl) d
 
 pub stored-held : (d : Kind) (k : Kernel) (n : ℕ) (x : Object d) → withObject d k n x .held ≡ k .held
 unfolding withSemaphore withQueue withGroup withPool
-stored-held semaphore k n x = refl
-stored-held queue k n x = refl
-stored-held group k n x = refl
-stored-held pool k n x = refl
+stored-held d k n = by-kind (λ d. (x : Object d) → withObject d k n x .held ≡ k .held) (λ x. refl) (λ x. refl) (λ x. refl) (λ x. refl) d
 
 -- the tables of the other kinds
 table-other : (d : Kind) (k : Kernel) (n : ℕ) (x : Object d) (e : Kind) → (e ≡ d → ⊥) → tableOf e (withObject d k n x) ≡ tableOf e k
 unfolding withSemaphore withQueue withGroup withPool
-table-other semaphore k n x semaphore o = absurd (o refl)
-table-other semaphore k n x queue o = refl
-table-other semaphore k n x group o = refl
-table-other semaphore k n x pool o = refl
-table-other queue k n x semaphore o = refl
-table-other queue k n x queue o = absurd (o refl)
-table-other queue k n x group o = refl
-table-other queue k n x pool o = refl
-table-other group k n x semaphore o = refl
-table-other group k n x queue o = refl
-table-other group k n x group o = absurd (o refl)
-table-other group k n x pool o = refl
-table-other pool k n x semaphore o = refl
-table-other pool k n x queue o = refl
-table-other pool k n x group o = refl
-table-other pool k n x pool o = absurd (o refl)
+table-other semaphore k n x = by-kind (λ e. (e ≡ semaphore → ⊥) → tableOf e (withSemaphore k n x) ≡ tableOf e k) (λ o. absurd (o refl)) (λ o. refl) (λ o. refl) (λ o. refl)
+table-other queue k n x = by-kind (λ e. (e ≡ queue → ⊥) → tableOf e (withQueue k n x) ≡ tableOf e k) (λ o. refl) (λ o. absurd (o refl)) (λ o. refl) (λ o. refl)
+table-other group k n x = by-kind (λ e. (e ≡ group → ⊥) → tableOf e (withGroup k n x) ≡ tableOf e k) (λ o. refl) (λ o. refl) (λ o. absurd (o refl)) (λ o. refl)
+table-other pool k n x = by-kind (λ e. (e ≡ pool → ⊥) → tableOf e (withPool k n x) ≡ tableOf e k) (λ o. refl) (λ o. refl) (λ o. refl) (λ o. absurd (o refl))
 
 -- one kind or another
-by-kind : {P : Type 0} (e d : Kind) → (e ≡ d → P) → ((e ≡ d → ⊥) → P) → P
-by-kind e d f g = by-eq (stateOn e) (stateOn d) (λ s. f (same-kind e d s)) (λ s. g (λ z. s (ap stateOn z)))
+by-same : {P : Type 0} (e d : Kind) → (e ≡ d → P) → ((e ≡ d → ⊥) → P) → P
+by-same e d f g = by-eq (stateOn e) (stateOn d) (λ s. f (same-kind e d s)) (λ s. g (λ z. s (ap stateOn z)))
 
 module _ (d : Kind) (k : Kernel) (n : ℕ) (x : Object d) where
   pub stored-self : length (tableOf d k) ≡ sizeOf d → n < sizeOf d → objectAt d (withObject d k n x) n ≡ x
@@ -153,7 +118,7 @@ module _ (d : Kind) (k : Kernel) (n : ℕ) (x : Object d) where
 
   pub stored-elsewhere : (e : Kind) (m : ℕ) → (e ≡ d → m ≡ n → ⊥) → objectAt e (withObject d k n x) m ≡ objectAt e k m
   stored-elsewhere e m o =
-      by-kind e d
+      by-same e d
       (λ z. subst (λ (c : Kind). objectAt c (withObject d k n x) m ≡ objectAt c k m) (sym z) (stored-other m (o z)))
       (λ z. same-object e k (withObject d k n x) (table-other d k n x e z) m)
 
@@ -173,14 +138,14 @@ module _ (d : Kind) (k : Kernel) (n : ℕ) (x : Object d) where
 
     pub stored-objects : objectFitb d x ≡ true → (e : Kind) → Objects e (withObject d k n x)
     stored-objects fit e =
-        by-kind e d
+        by-same e d
         (λ z. subst (λ (c : Kind). Objects c (withObject d k n x)) (sym z) (stored-here fit))
         (λ z. same-objects e k (withObject d k n x) (table-other d k n x e z) (F e))
 
     -- who waits on it may wait on the new record, and all others wait as before
     pub stored-waits : (th : Thread) (h : Held) → (waitsOnb (stateOn d) th ≡ true → th .object ≡ n → waitb d h x ≡ true) → MayWait k th h → MayWait (withObject d k n x) th h
     stored-waits th h here W e w =
-        by-kind e d
+        by-same e d
         (λ z. subst (λ (c : Kind). waitb c h (objectAt c (withObject d k n x) (th .object)) ≡ true) (sym z)
         (let v = subst (λ (c : Kind). waitsOnb (stateOn c) th ≡ true) z w in
         by-eq (th .object) n
@@ -191,10 +156,7 @@ module _ (d : Kind) (k : Kernel) (n : ℕ) (x : Object d) where
 -- ---- a created object
 none-created : (d : Kind) → createdb d (noObject d) ≡ false
 unfolding noSemaphore noQueue noGroup noPool
-none-created semaphore = refl
-none-created queue = refl
-none-created group = refl
-none-created pool = refl
+none-created = by-kind (λ d. createdb d (noObject d) ≡ false) refl refl refl refl
 
 -- who may wait waits on a created object
 wait-created : (d : Kind) (h : Held) (x : Object d) → waitb d h x ≡ true → createdb d x ≡ true

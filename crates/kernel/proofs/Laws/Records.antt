@@ -38,11 +38,11 @@ module _ (k : Kernel) (n caller a b c d : ℕ) (ms : List ℕ) where
       (λ f. sym (ap (λ (y : Bool). if y then Unknown else knownCall n a b c d) f) ∙ e)
 
   -- the call of a known number comes to its service
-  pub to-service : (m : ℕ) (call : Call) → m ≡ admittedAs n caller (runnerOf k) (decoded n caller a b c d) → m < 40 → knownCall m a b c d ≡ Known call → step k n caller a b c d ms ≡ service k caller call ms
+  pub to-service : (m : ℕ) (call : Call) → m ≡ admittedAs n caller (runnerOf k) (decoded n caller a b c d) → m < 256 → knownCall m a b c d ≡ Known call → step k n caller a b c d ms ≡ service k caller call ms
   unfolding step byRecord byCaller admittedAs
   to-service m call = by-record (decoded n caller a b c d) refl
     where
-      by-record : (x : Decoded) → decoded n caller a b c d ≡ x → m ≡ admittedAs n caller (runnerOf k) x → m < 40 → knownCall m a b c d ≡ Known call → byRecord k caller x ms ≡ service k caller call ms
+      by-record : (x : Decoded) → decoded n caller a b c d ≡ x → m ≡ admittedAs n caller (runnerOf k) x → m < 256 → knownCall m a b c d ≡ Known call → byRecord k caller x ms ≡ service k caller call ms
       by-record Unknown e q l h = absurd (omega (arith, q, l))
       by-record (Known y) e q l h =
           by-test (nobodyRunsb caller (runnerOf k))

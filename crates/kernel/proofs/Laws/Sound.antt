@@ -26,9 +26,10 @@ use Rattle.waiting.proofs.Laws.Fit.{waits-nowhere}
 use Rattle.kernel.specs.declared.Kernel.{Kernel}
 use Rattle.kernel.specs.Tables.{started, threadOf, heldAt, semaphoreAt, queueAt, groupAt, poolAt}
 use Rattle.waiting.specs.Fit.{blankFrom, waitsOnb, sendsb, statusFitb, wordsFitb, senderFitb, requestFitb, unheldFitb, heldFitb, semaphoreWaitb, queueWaitb, groupWaitb, poolWaitb, semaphoresFitb, queuesFitb, groupsFitb, poolsFitb}
-use Rattle.kernel.specs.Kinds.{Kind, Object, stateOn, tableOf, objectAt, noObject, waitb}
+use Rattle.kernel.specs.Kinds.{Kind, Object, stateOn, tableOf, objectAt, noObject, objectFitb, waitb}
 use Rattle.kernel.specs.Kinds.Kind.{semaphore, queue, group, pool}
 use Rattle.kernel.proofs.Laws.Objects
+use Rattle.kernel.proofs.Laws.Objects.{by-kind}
 use Rattle.kernel.proofs.Laws.Fits
 use Rattle.kernel.specs.Sound.{waitFitb, soundb, MayWait, Sound}
 use Rattle.kernel.specs.Sound as Soundness
@@ -51,14 +52,7 @@ and-rest {b = b} e h = e ∙ ap (λ (x : Bool). x && b) h
 pub outside : {n m l : ℕ} → m ≤ n → l ≡ m → l ≤ n
 outside h e = omega arith
 
--- ---- kinds of objects
-pub by-kind : (P : Kind → Type 0) → P semaphore → P queue → P group → P pool → (d : Kind) → P d
-by-kind P s q g p semaphore = s
-by-kind P s q g p queue = q
-by-kind P s q g p group = g
-by-kind P s q g p pool = p
-
--- what is asked of the object that a thread waits on, kind by kind
+-- ---- what is asked of the object that a thread waits on, kind by kind
 module _ (k : Kernel) (t : ℕ) where
   abbrev onQ : Bool
   onQ = implies (waitsOnb onQueue (threadOf k t)) (queueWaitb (heldAt k t) (queueAt k (threadOf k t .object)))
@@ -129,17 +123,8 @@ module _ (k : Kernel) where
   abbrev heldTest : ℕ → Bool
   heldTest t = heldFitb (threadOf k t) (heldAt k t)
 
-  abbrev semaphoreTest : ℕ → Bool
-  semaphoreTest n = semaphoreFitb (semaphoreAt k n)
-
-  abbrev queueTest : ℕ → Bool
-  queueTest n = queueFitb (queueAt k n)
-
-  abbrev groupTest : ℕ → Bool
-  groupTest n = groupFitb (groupAt k n)
-
-  abbrev poolTest : ℕ → Bool
-  poolTest n = poolFitb (poolAt k n)
+  abbrev test : Kind → ℕ → Bool
+  test d n = objectFitb d (objectAt d k n)
 
   -- the first tests of `soundb`, up to each
   abbrev to-held : Bool
@@ -149,13 +134,13 @@ module _ (k : Kernel) where
   to-waits = to-held && allBelow 32 (waitFitb k)
 
   abbrev to-semaphores : Bool
-  to-semaphores = to-waits && allBelow 16 semaphoreTest
+  to-semaphores = to-waits && allBelow 16 (test semaphore)
 
   abbrev to-queues : Bool
-  to-queues = to-semaphores && allBelow 8 queueTest
+  to-queues = to-semaphores && allBelow 8 (test queue)
 
   abbrev to-groups : Bool
-  to-groups = to-queues && allBelow 8 groupTest
+  to-groups = to-queues && allBelow 8 (test group)
 
   pub tested :
       length (k .scheduler .threads) ≡ 32
@@ -168,17 +153,17 @@ module _ (k : Kernel) where
       → Sound k
   unfolding soundb semaphoresFitb queuesFitb groupsFitb poolsFitb semaphoreAt queueAt groupAt poolAt
   tested zt zh zs zq zg zp e =
-      let g = and-left to-groups (allBelow 4 poolTest) e in
-      let q = and-left to-queues (allBelow 8 groupTest) g in
-      let s = and-left to-semaphores (allBelow 8 queueTest) q in
-      let w = and-left to-waits (allBelow 16 semaphoreTest) s in
+      let g = and-left to-groups (allBelow 4 (test pool)) e in
+      let q = and-left to-queues (allBelow 8 (test group)) g in
+      let s = and-left to-semaphores (allBelow 8 (test queue)) q in
+      let w = and-left to-waits (allBelow 16 (test semaphore)) s in
       let h = and-left to-held (allBelow 32 (waitFitb k)) w in
       let t = Testing.tested (k .scheduler) zt (and-left (Scheduling.soundb (k .scheduler)) (allBelow 32 heldTest) h) in
       let objects : (d : Kind) → Soundness.Objects d k = by-kind (λ d. Soundness.Objects d k)
-      (record { sized = zs; fit = all-at 16 semaphoreTest (and-right to-waits (allBelow 16 semaphoreTest) s) })
-      (record { sized = zq; fit = all-at 8 queueTest (and-right to-semaphores (allBelow 8 queueTest) q) })
-      (record { sized = zg; fit = all-at 8 groupTest (and-right to-queues (allBelow 8 groupTest) g) })
-      (record { sized = zp; fit = all-at 4 poolTest (and-right to-groups (allBelow 4 poolTest) e) }) in
+      (record { sized = zs; fit = all-at 16 (test semaphore) (and-right to-waits (allBelow 16 (test semaphore)) s) })
+      (record { sized = zq; fit = all-at 8 (test queue) (and-right to-semaphores (allBelow 8 (test queue)) q) })
+      (record { sized = zg; fit = all-at 8 (test group) (and-right to-queues (allBelow 8 (test group)) g) })
+      (record { sized = zp; fit = all-at 4 (test pool) (and-right to-groups (allBelow 4 (test pool)) e) }) in
       record {
         fit = record {
           steady = t .steady;
@@ -196,10 +181,10 @@ module _ (k : Kernel) where
       let F = S .fit in
       let h = and-in (Scheduling.soundb (k .scheduler)) (allBelow 32 heldTest) (Testing.passes (k .scheduler) (record { steady = F .steady; runs = S .runs })) (all-in 32 heldTest (F .held)) in
       let w = and-in to-held (allBelow 32 (waitFitb k)) h (all-in 32 (waitFitb k) (λ t l. asks k t (F .waits t l))) in
-      let s = and-in to-waits (allBelow 16 semaphoreTest) w (all-in 16 semaphoreTest (F .objects semaphore .fit)) in
-      let q = and-in to-semaphores (allBelow 8 queueTest) s (all-in 8 queueTest (F .objects queue .fit)) in
-      let g = and-in to-queues (allBelow 8 groupTest) q (all-in 8 groupTest (F .objects group .fit)) in
-      and-in to-groups (allBelow 4 poolTest) g (all-in 4 poolTest (F .objects pool .fit))
+      let s = and-in to-waits (allBelow 16 (test semaphore)) w (all-in 16 (test semaphore) (F .objects semaphore .fit)) in
+      let q = and-in to-semaphores (allBelow 8 (test queue)) s (all-in 8 (test queue) (F .objects queue .fit)) in
+      let g = and-in to-queues (allBelow 8 (test group)) q (all-in 8 (test group) (F .objects group .fit)) in
+      and-in to-groups (allBelow 4 (test pool)) g (all-in 4 (test pool) (F .objects pool .fit))
 
 -- ---- nothing created
 started-passes : soundb started ≡ true

@@ -17,14 +17,12 @@ use Rattle.scheduler.specs.declared.Scheduler.{Scheduler}
 use Rattle.scheduler.specs.declared.thread.Thread.{Thread}
 use Rattle.scheduler.specs.Threads.{noThread, awake}
 use Rattle.scheduler.specs.Orders.{threadAt, withThread, withOrder, moved, woken}
-use Rattle.objects.specs.declared.semaphore.Semaphore.{Semaphore}
-use Rattle.objects.specs.declared.queue.Queue.{Queue}
-use Rattle.objects.specs.declared.group.Group.{Group}
-use Rattle.blocks.specs.declared.pool.Pool.{Pool}
 use Rattle.calls.specs.Held.{noWords, holding}
 use Rattle.kernel.specs.declared.Kernel.{Kernel}
 use Rattle.kernel.specs.Tables.{threadOf, heldAt, withScheduler, withHeld, withSemaphore, withQueue, withGroup, withPool}
 use Rattle.waiting.specs.Ticks.{timedb, timeoutStatus, withTicks, lastTickb}
+use Rattle.kernel.specs.Kinds.{Kind, Object, withObject}
+use Rattle.kernel.proofs.Laws.Objects.{by-kind}
 use Rattle.kernel.specs.Waits.{endWait, endEach, tickOne, tickBelow, timedOut}
 
 -- one more at the end of the list
@@ -49,22 +47,12 @@ unfolding endEach
 each-past f status words h k [] = refl
 each-past f status words h k (x ∷ xs) = ap (λ (y : Kernel). endEach y status words xs) (h k x) ∙ each-past f status words h (endWait k x status words) xs
 
--- the records of objects can be stored before or after
-pub each-semaphore : (k : Kernel) (n : ℕ) (x : Semaphore) (status : ℕ) (words xs : List ℕ) → endEach (withSemaphore k n x) status words xs ≡ withSemaphore (endEach k status words xs) n x
-unfolding endWait withHeld withScheduler withSemaphore
-each-semaphore k n x status words xs = each-past (λ y. withSemaphore y n x) status words (λ y t. refl) k xs
-
-pub each-queue : (k : Kernel) (n : ℕ) (q : Queue) (status : ℕ) (words xs : List ℕ) → endEach (withQueue k n q) status words xs ≡ withQueue (endEach k status words xs) n q
-unfolding endWait withHeld withScheduler withQueue
-each-queue k n q status words xs = each-past (λ y. withQueue y n q) status words (λ y t. refl) k xs
-
-pub each-group : (k : Kernel) (n : ℕ) (g : Group) (status : ℕ) (words xs : List ℕ) → endEach (withGroup k n g) status words xs ≡ withGroup (endEach k status words xs) n g
-unfolding endWait withHeld withScheduler withGroup
-each-group k n g status words xs = each-past (λ y. withGroup y n g) status words (λ y t. refl) k xs
-
-pub each-pool : (k : Kernel) (n : ℕ) (p : Pool) (status : ℕ) (words xs : List ℕ) → endEach (withPool k n p) status words xs ≡ withPool (endEach k status words xs) n p
-unfolding endWait withHeld withScheduler withPool
-each-pool k n p status words xs = each-past (λ y. withPool y n p) status words (λ y t. refl) k xs
+-- an object's record can be stored before or after
+pub each-object : (d : Kind) (k : Kernel) (n : ℕ) (x : Object d) (status : ℕ) (words xs : List ℕ) → endEach (withObject d k n x) status words xs ≡ withObject d (endEach k status words xs) n x
+unfolding endWait withHeld withScheduler withSemaphore withQueue withGroup withPool
+each-object d k n x status words xs =
+    each-past (λ y. withObject d y n x) status words
+    (λ y t. by-kind (λ c. (z : Object c) → endWait (withObject c y n z) t status words ≡ withObject c (endWait y t status words) n z) (λ z. refl) (λ z. refl) (λ z. refl) (λ z. refl) d x) k xs
 
 -- ---- ticks
 -- the tick of thread n leaves the others' records

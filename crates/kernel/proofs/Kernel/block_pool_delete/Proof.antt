@@ -8,7 +8,8 @@ use Rattle.kernel.specs.declared.Kernel.{Kernel}
 use Rattle.kernel.specs.Tables.{poolAt, withPool}
 use Rattle.kernel.specs.Answers.{answerOf, carried}
 use Rattle.kernel.specs.Pools.{poolPlace, poolDelete}
-use Rattle.kernel.proofs.Laws.Waits.{each-pool}
+use Rattle.kernel.specs.Kinds.{Kind}
+use Rattle.kernel.proofs.Laws.Waits.{each-object}
 use Rattle.kernel.proofs.Laws.Answers.{is-carried}
 use Rattle.kernel.proofs.Laws.Arms.{refused-by}
 use Rattle.kernel.proofs.Kernel.block_pool_delete.Statement.{statement}
@@ -28,7 +29,7 @@ returns-2 c =
     let z = sym (reason (h .before)) ∙ h .if1 .left in
     let m = c .before .before .before .line-at .ensures .1 ∙ ap (lineAt (a .self .scheduler)) (c .before .before .before .before .place .ensures) in
     let p = lineAt (a .self .scheduler) (poolPlace (a .n .0)) in
-    let e = ap (λ (k : Kernel). answerOf (carried k 0 noWords p)) (each-pool (a .self) (a .n .0) noPool 1 noWords p) in
+    let e = ap (λ (k : Kernel). answerOf (carried k 0 noWords p)) (each-object Kind.pool (a .self) (a .n .0) noPool 1 noWords p) in
     rw is-carried (c .ended-each .ensures ∙ rw (m, c .before .pools-with .ensures, c .before .before .none .ensures) e)
 
 pub block-pool-delete-spec : {M : Type 1} → statement M

@@ -8,7 +8,8 @@ use Rattle.kernel.specs.declared.Kernel.{Kernel}
 use Rattle.kernel.specs.Tables.{groupAt, withGroup}
 use Rattle.kernel.specs.Answers.{answerOf, carried}
 use Rattle.kernel.specs.Groups.{groupPlace, groupDelete}
-use Rattle.kernel.proofs.Laws.Waits.{each-group}
+use Rattle.kernel.specs.Kinds.{Kind}
+use Rattle.kernel.proofs.Laws.Waits.{each-object}
 use Rattle.kernel.proofs.Laws.Answers.{is-carried}
 use Rattle.kernel.proofs.Laws.Arms.{refused-by}
 use Rattle.kernel.proofs.Kernel.event_flags_delete.Statement.{statement}
@@ -28,7 +29,7 @@ returns-2 c =
     let z = sym (reason (h .before)) ∙ h .if1 .left in
     let line = lineAt (a .self .scheduler) (groupPlace (a .n .0)) in
     let m = c .before .before .before .line-at .ensures .1 ∙ ap (lineAt (a .self .scheduler)) (c .before .before .before .before .place .ensures) in
-    let e = ap (λ (k : Kernel). answerOf (carried k 0 noWords line)) (each-group (a .self) (a .n .0) noGroup 1 noWords line) in
+    let e = ap (λ (k : Kernel). answerOf (carried k 0 noWords line)) (each-object Kind.group (a .self) (a .n .0) noGroup 1 noWords line) in
     rw is-carried (c .ended-each .ensures ∙ rw (m, c .before .groups-with .ensures, c .before .before .none .ensures) e)
 
 pub event-flags-delete-spec : {M : Type 1} → statement M

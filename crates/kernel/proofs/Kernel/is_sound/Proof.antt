@@ -23,7 +23,8 @@ use Rattle.kernel.specs.Tables.{threadOf, heldAt, semaphoreAt, queueAt, 
 use Rattle.kernel.specs.Kinds.Kind.{semaphore, queue, group, pool}
 use Rattle.kernel.specs.Sound.{waitFitb, soundb}
 use Rattle.kernel.proofs.Laws.Reads.{read-inside, test-more}
-use Rattle.kernel.proofs.Laws.Sound.{by-kind, waits-none, waits-rest, waits-object, past-objects, outside, one-more, none-more, past-more, and-rest, resting-read, unheld-read}
+use Rattle.kernel.proofs.Laws.Objects.{by-kind}
+use Rattle.kernel.proofs.Laws.Sound.{waits-none, waits-rest, waits-object, past-objects, outside, one-more, none-more, past-more, and-rest, resting-read, unheld-read}
 use Rattle.kernel.proofs.Kernel.is_sound.Statement.{statement}
 use Rattle.kernel.proofs.Kernel.is_sound.Tie as tie
 

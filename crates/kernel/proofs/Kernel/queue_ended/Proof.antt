@@ -10,7 +10,8 @@ use Rattle.kernel.specs.Tables.{withQueue}
 use Rattle.kernel.specs.Answers.{answerOf, carried}
 use Rattle.kernel.specs.Waits.{endEach}
 use Rattle.kernel.specs.Queues.{queuePlace, endQueue}
-use Rattle.kernel.proofs.Laws.Waits.{each-queue}
+use Rattle.kernel.specs.Kinds.{Kind}
+use Rattle.kernel.proofs.Laws.Waits.{each-object}
 use Rattle.kernel.proofs.Laws.Answers.{queue-out}
 use Rattle.kernel.proofs.Kernel.queue_ended.Statement.{statement}
 use Rattle.kernel.proofs.Kernel.queue_ended.Tie as tie
@@ -31,7 +32,7 @@ returns c =
     let p = c .before .before .before .line-at .ensures .1 ∙ ap (lineAt (a .t1 .scheduler)) (c .before .before .before .before .place .ensures) in
     c .ended-each .ensures
     ∙ (λ j. answerOf (carried (endEach (m j) (a .status) noWords (p j)) 0 noWords (p j)))
-    ∙ ap (λ (k : Kernel). answerOf (carried k 0 noWords line)) (each-queue (a .t1) (a .n .0) (a .q) (a .status) noWords line)
+    ∙ ap (λ (k : Kernel). answerOf (carried k 0 noWords line)) (each-object Kind.queue (a .t1) (a .n .0) (a .q) (a .status) noWords line)
 
 pub queue-ended-spec : {M : Type 1} → statement M
 queue-ended-spec =

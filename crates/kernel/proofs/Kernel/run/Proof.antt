@@ -111,11 +111,11 @@ module _ (k : tie.At-match-came Inv-loop μ-loop) where
   Stepped = k .match .a ≡ answerOf (step tables (r .call) (r .caller) (r .a) (r .b) (r .c) (r .d) (messagesOf bytes))
 
   served :
-      {m : ℕ} {call : Call} → admitted .admitted .result ≡ m → ltb m 40 ≡ true → knownCall m (r .a) (r .b) (r .c) (r .d) ≡ Known call
+      {m : ℕ} {call : Call} → admitted .admitted .result ≡ m → ltb m 256 ≡ true → knownCall m (r .a) (r .b) (r .c) (r .d) ≡ Known call
       → k .match .a ≡ answerOf (service tables (r .caller) call (messagesOf bytes)) → Stepped
   served {m} {call} e s o q =
       let n = sym e ∙ admitted .admitted .ensures in
-      q ∙ ap answerOf (sym (to-service tables (r .call) (r .caller) (r .a) (r .b) (r .c) (r .d) (messagesOf bytes) m call n (ltb-true m 40 s) o))
+      q ∙ ap answerOf (sym (to-service tables (r .call) (r .caller) (r .a) (r .b) (r .c) (r .d) (messagesOf bytes) m call n (ltb-true m 256 s) o))
 
   -- a send of lent words
   abbrev sent : Bool → List ℕ → Answer

@@ -7,7 +7,8 @@ use Rattle.kernel.specs.declared.Kernel.{Kernel}
 use Rattle.kernel.specs.Tables.{semaphoreAt, withSemaphore}
 use Rattle.kernel.specs.Answers.{answerOf, carried}
 use Rattle.kernel.specs.Semaphores.{semaphorePlace, semaphoreDelete}
-use Rattle.kernel.proofs.Laws.Waits.{each-semaphore}
+use Rattle.kernel.specs.Kinds.{Kind}
+use Rattle.kernel.proofs.Laws.Waits.{each-object}
 use Rattle.kernel.proofs.Laws.Answers.{is-carried}
 use Rattle.objects.specs.Semaphores.{noSemaphore}
 use Rattle.kernel.proofs.Laws.Arms.{refused-by}
@@ -30,7 +31,7 @@ returns-2 c =
     let z = sym (reason (h .before)) ∙ h .if1 .left in
     let m = c .before .before .before .line-at .ensures .1 ∙ ap (lineAt (a .self .scheduler)) (c .before .before .before .before .place .ensures) in
     let p = lineAt (a .self .scheduler) (semaphorePlace (a .n .0)) in
-    let e = ap (λ (k : Kernel). answerOf (carried k 0 noWords p)) (each-semaphore (a .self) (a .n .0) noSemaphore 1 noWords p) in
+    let e = ap (λ (k : Kernel). answerOf (carried k 0 noWords p)) (each-object Kind.semaphore (a .self) (a .n .0) noSemaphore 1 noWords p) in
     rw is-carried (c .ended-each .ensures ∙ rw (m, c .before .semaphores-with .ensures, c .before .before .none .ensures) e)
 
 pub semaphore-delete-spec : {M : Type 1} → statement M

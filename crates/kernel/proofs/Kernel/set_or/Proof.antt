@@ -16,7 +16,8 @@ use Rattle.kernel.specs.declared.Kernel.{Kernel}
 use Rattle.kernel.specs.Tables.{heldAt, withGroup, withScheduler, withHeld}
 use Rattle.kernel.specs.Answers.{answerOf, carried, answered}
 use Rattle.kernel.specs.Groups.{groupPlace, wokenBy, clearsBy, setOr}
-use Rattle.kernel.proofs.Laws.Waits.{each-group, each-step}
+use Rattle.kernel.specs.Kinds.{Kind}
+use Rattle.kernel.proofs.Laws.Waits.{each-object, each-step}
 use Rattle.kernel.proofs.Laws.Groups.{table-all, clears-by, woken-members, table-more}
 use Rattle.lines.proofs.Laws.Lists.{getD-any}
 use native.Mathlib.Nat.{not-suc-le-zero}
@@ -161,7 +162,7 @@ returns c =
     let stored = c .before .before .before .before .before .before .before .before .before in
     done
     ∙ rw (w, store .ensures, stored .of .ensures, stored .before .less .ensures, x, two .ensures)
-    (ap (λ (y : Kernel). answerOf (carried y 0 noWords u)) (each-group (a .t1) (a .n .0) g 0 (oneWord (a .flags)) u))
+    (ap (λ (y : Kernel). answerOf (carried y 0 noWords u)) (each-object Kind.group (a .t1) (a .n .0) g 0 (oneWord (a .flags)) u))
 
 pub set-or-spec : {M : Type 1} → statement M
 set-or-spec =
