@@ -16,9 +16,9 @@ use Rattle.scheduler.specs.Choice.{bestAmong, bestReady}
 use Rattle.scheduler.specs.Sound as Scheduling
 use Rattle.scheduler.proofs.Laws.Testing
 use Rattle.lines.specs.Slots.{zeroFrom}
-use Rattle.objects.specs.Semaphores.{noSemaphore, semaphoreFitb}
+use Rattle.objects.specs.Semaphores.{noSemaphore}
 use Rattle.objects.specs.Queues.{noQueue, queueZerob, queueFitb}
-use Rattle.objects.specs.Groups.{noGroup, groupFitb}
+use Rattle.objects.specs.Groups.{noGroup}
 use Rattle.blocks.specs.Pools.{noPool, poolZerob, poolFitb}
 use Rattle.calls.specs.declared.held.Held.{Held}
 use Rattle.calls.specs.Held.{holding}

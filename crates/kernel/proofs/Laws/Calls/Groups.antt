@@ -18,7 +18,6 @@ use Rattle.calls.specs.declared.held.Held.{Held}
 use Rattle.calls.specs.Held.{noWords, oneWord, requesting}
 use Rattle.calls.specs.Statuses as Statuses
 use Rattle.calls.specs.Refusals
-use Rattle.calls.specs.Refusals.{unless, firstOf}
 use Rattle.waiting.specs.Fit.{waitsOnb, groupWaitb}
 use Rattle.kernel.specs.declared.Kernel.{Kernel}
 use Rattle.kernel.specs.Tables.{threadOf, runnerOf, heldAt, groupAt}
@@ -63,13 +62,6 @@ unfolding groupWith
 with-fit flags = refl
 
 module _ (k : Kernel) (b c : ℕ) (messages : List ℕ) (caller : ℕ) where
-  -- the first reason of most calls: no such group
-  is-made : (n rest : ℕ) → firstOf (unless (groupAt k n .created) Statuses.groupError) rest ≡ 0 → groupAt k n .created ≡ true
-  is-made n rest e = Effects.is-true (groupAt k n .created) Statuses.groupError rest (omega arith) e
-
-  small : (n : ℕ) → Sound k → groupAt k n .created ≡ true → n < 8
-  small n S made = Objects.object-small group k (S .fit) n made
-
   -- whoever waits is not met
   unmet-here : (n : ℕ) → Sound k → (t : ℕ) → t < 32 → waitsOnb 7 (threadOf k t) ≡ true → threadOf k t .object ≡ n → metb (groupAt k n .flags) (heldAt k t .request) (heldAt k t .option) ≡ false
   unfolding groupWaitb
@@ -78,7 +70,7 @@ module _ (k : Kernel) (b c : ℕ) (messages : List ℕ) (caller : ℕ) where
   -- flags that meet nobody who waits
   flags-stored : (n flags : ℕ) → Sound k → groupAt k n .created ≡ true → ((h : Held) → metb (groupAt k n .flags) (h .request) (h .option) ≡ false → metb flags (h .request) (h .option) ≡ false) → Fits.Stored group k n (groupWith flags)
   flags-stored n flags S made less =
-      record { small = small n S made; fit = with-fit flags; free = λ t l w o. unmet-waits (heldAt k t) flags (less (heldAt k t) (unmet-here n S t l w o)) }
+      record { small = Objects.object-small group k (S .fit) n made; fit = with-fit flags; free = λ t l w o. unmet-waits (heldAt k t) flags (less (heldAt k t) (unmet-here n S t l w o)) }
 
   -- ---- 29
   pub create-does : (n : ℕ) → Does.Does k caller 29 n b c messages (Calls.groupCreate k caller n)
@@ -104,7 +96,7 @@ module _ (k : Kernel) (b c : ℕ) (messages : List ℕ) (caller : ℕ) where
       let was : (u : ℕ) → 0 < count u woken → placedb (placeOf group n) (threadOf k u) ≡ true = λ u l. Fits.line-placed (k .scheduler) (F .steady) (placeOf group n) u (let p = Lists.count-part met u line in omega (arith, p, l)) in
       Effects.proper-each (served group n) (oneWord flags) k F woken once was 31 n group n (groupWith left) noWords
       (record {
-        small = small n S made;
+        small = Objects.object-small group k (S .fit) n made;
         fit = with-fit left;
         free = λ t l w o. (let e = Effects.each-left (served group n) (oneWord flags) k F woken once was group t w in
             let v = Changes.kept-waits k _ t 0 (e .1) 7 ∙ w in
@@ -128,7 +120,7 @@ module _ (k : Kernel) (b c : ℕ) (messages : List ℕ) (caller : ℕ) where
         reason = Refusals.setRefusal (groupAt k n) option;
         effect = Effect.setEffect k n flags option;
         is = ap (guarded k _) (Effects.either k (eqb option 0) _ _ _ _ (set-is n (bitOr (groupAt k n .flags) flags)) refl);
-        proper = λ S runs z. (let made = is-made n _ z in
+        proper = λ S runs z. (let made = Effects.is-true _ Statuses.groupError _ (omega arith) z in
             by-choice (Does.Proper k 31 n) (eqb option 0) _ _
             (λ q. set-or n (bitOr (groupAt k n .flags) flags) S made)
             (λ q. Effects.proper-store k (S .fit) 31 n group n _ noWords (flags-stored n _ S made (λ h m. part-unmet (groupAt k n .flags) flags (h .request) (h .option) m)) (Effects.here n)));
@@ -150,7 +142,7 @@ module _ (k : Kernel) (b c : ℕ) (messages : List ℕ) (caller : ℕ) where
         reason = Refusals.getRefusal (groupAt k n) request option wait caller;
         effect = Effect.flagsGetEffect k n request option wait;
         is = ap (guarded k _) (Effects.either k (metb (groupAt k n .flags) request option) _ _ _ _ refl refl);
-        proper = λ S runs z. (let made = is-made n _ z in
+        proper = λ S runs z. (let made = Effects.is-true _ Statuses.groupError _ (omega arith) z in
             let known = Effects.is-true (leb option 3) Statuses.optionError _ (omega arith) (second-none _ _ z) in
             let may = Effects.is-true _ Statuses.waitError _ (omega arith) (second-none _ _ (second-none _ _ z)) in
             let some = unless-none _ Statuses.noEvents (omega arith) (second-none _ _ (second-none _ _ (second-none _ _ z))) in

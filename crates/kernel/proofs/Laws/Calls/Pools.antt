@@ -13,7 +13,6 @@ use Rattle.calls.specs.declared.held.Held.{Held}
 use Rattle.calls.specs.Held.{noWords, waiting}
 use Rattle.calls.specs.Statuses as Statuses
 use Rattle.calls.specs.Refusals
-use Rattle.calls.specs.Refusals.{unless, firstOf}
 use Rattle.waiting.specs.Fit.{poolWaitb}
 use Rattle.kernel.specs.declared.Kernel.{Kernel}
 use Rattle.kernel.specs.Tables.{runnerOf, poolAt}
@@ -35,21 +34,11 @@ use Rattle.kernel.proofs.Laws.Fits
 use Rattle.kernel.proofs.Laws.Does
 use Rattle.kernel.proofs.Laws.Effects
 use Rattle.kernel.proofs.Laws.Uses
-use Rattle.blocks.specs.Pools.{blockSizesb, usedb, withoutNext, poolFitb}
+use Rattle.blocks.specs.Pools.{blockSizesb, usedb, withoutNext}
 use Rattle.blocks.proofs.Laws.Pools as Records
 use Rattle.kernel.specs.Pools as Calls
 
 module _ (k : Kernel) (b c : ℕ) (messages : List ℕ) (caller : ℕ) where
-  -- the first reason of most calls: no such pool
-  is-made : (n rest : ℕ) → firstOf (unless (poolAt k n .created) Statuses.poolError) rest ≡ 0 → poolAt k n .created ≡ true
-  is-made n rest e = Effects.is-true (poolAt k n .created) Statuses.poolError rest (omega arith) e
-
-  small : (n : ℕ) → Sound k → poolAt k n .created ≡ true → n < 4
-  small n S made = Objects.object-small pool k (S .fit) n made
-
-  fit : (n : ℕ) → Sound k → poolAt k n .created ≡ true → poolFitb (poolAt k n) ≡ true
-  fit n S made = Objects.object-fit pool k (S .fit) n made
-
   -- whoever waits, waits where no block is free
   free-none : (n : ℕ) → Sound k → (t : ℕ) → Taker pool k n t → poolAt k n .free ≡ 0
   unfolding poolWaitb
@@ -72,8 +61,8 @@ module _ (k : Kernel) (b c : ℕ) (messages : List ℕ) (caller : ℕ) where
   given n S made q =
       let l = ltb-true 0 (poolAt k n .free) q in
       record {
-        small = small n S made;
-        fit = Records.without-fit (poolAt k n) (fit n S made) made;
+        small = Objects.object-small pool k (S .fit) n made;
+        fit = Records.without-fit (poolAt k n) (Objects.object-fit pool k (S .fit) n made) made;
         free = λ t. Objects.waits-not pool k (S .fit) n t (rw (made, ne-eqb (poolAt k n .free) 0 (λ z. omega (arith, l, z))));
       }
 
@@ -92,7 +81,7 @@ module _ (k : Kernel) (b c : ℕ) (messages : List ℕ) (caller : ℕ) where
         reason = Refusals.allocateRefusal (poolAt k n) wait caller;
         effect = Effect.allocateEffect k n wait;
         is = ap (guarded k _) (Effects.either k (ltb 0 (poolAt k n .free)) _ _ _ _ refl refl);
-        proper = λ S runs z. (let made = is-made n _ z in
+        proper = λ S runs z. (let made = Effects.is-true _ Statuses.poolError _ (omega arith) z in
             let may = Effects.is-true _ Statuses.waitError _ (omega arith) (second-none _ _ z) in
             let some = unless-none _ Statuses.noMemory (omega arith) (second-none _ _ (second-none _ _ z)) in
             by-choice (Does.Proper k 35 n) (ltb 0 (poolAt k n .free)) _ _
@@ -113,7 +102,7 @@ module _ (k : Kernel) (b c : ℕ) (messages : List ℕ) (caller : ℕ) where
   unfolding Refusals.releaseRefusal
   is-block n S z =
       let used = unless-none (usedb (poolAt k n) (min b 64)) Statuses.ptrError (omega arith) (second-none _ _ z) in
-      let l = Records.used-small (poolAt k n) (fit n S (is-made n _ z)) (is-made n _ z) (min b 64) used in
+      let l = Records.used-small (poolAt k n) (Objects.object-fit pool k (S .fit) n (Effects.is-true _ Statuses.poolError _ (omega arith) z)) (Effects.is-true _ Statuses.poolError _ (omega arith) z) (min b 64) used in
       omega (arith, l)
 
   release-gives : (n block : ℕ) → Sound k → block ≡ b → usedb (poolAt k n) block ≡ true → Gives pool k n b c messages (Effect.releaseEffect k n block)
@@ -132,11 +121,11 @@ module _ (k : Kernel) (b c : ℕ) (messages : List ℕ) (caller : ℕ) where
         reason = Refusals.releaseRefusal (poolAt k n) (min b 64);
         effect = Effect.releaseEffect k n (min b 64);
         is = ap (guarded k _) (Effects.either k (waitedb k pool n) _ _ _ _ refl refl);
-        proper = λ S runs z. (let made = is-made n _ z in
+        proper = λ S runs z. (let made = Effects.is-true _ Statuses.poolError _ (omega arith) z in
             let used = unless-none (usedb (poolAt k n) (min b 64)) Statuses.ptrError (omega arith) (second-none _ _ z) in
             by-choice (Does.Proper k 36 n) (waitedb k pool n) _ _
             (λ q. Uses.serve-proper pool k (S .fit) n 36 n _ q (Effects.here n))
-            (λ q. Effects.proper-store k (S .fit) 36 n pool n _ noWords (Uses.unwaited pool k (S .fit) n _ (small n S made) (Records.with-fit (poolAt k n) (fit n S made) made (min b 64) used) q) (Effects.here n)));
+            (λ q. Effects.proper-store k (S .fit) 36 n pool n _ noWords (Uses.unwaited pool k (S .fit) n _ (Objects.object-small pool k (S .fit) n made) (Records.with-fit (poolAt k n) (Objects.object-fit pool k (S .fit) n made) made (min b 64) used) q) (Effects.here n)));
         role = λ S z. Effects.give-role k 36 n b c messages _ refl refl refl refl (release-gives n (min b 64) S (is-block n S z) (unless-none (usedb (poolAt k n) (min b 64)) Statuses.ptrError (omega arith) (second-none _ _ z)));
       }
 

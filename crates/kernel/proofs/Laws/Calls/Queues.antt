@@ -19,7 +19,6 @@ use Rattle.calls.specs.Held.{noWords, holding, waiting, sending}
 use Rattle.calls.specs.Messages.{messageIn}
 use Rattle.calls.specs.Statuses as Statuses
 use Rattle.calls.specs.Refusals
-use Rattle.calls.specs.Refusals.{unless, firstOf}
 use Rattle.waiting.specs.Fit.{blankFrom, queueWaitb}
 use Rattle.kernel.specs.declared.Kernel.{Kernel}
 use Rattle.kernel.specs.Tables.{threadOf, runnerOf, heldAt, queueAt}
@@ -43,7 +42,7 @@ use Rattle.kernel.proofs.Laws.Does
 use Rattle.kernel.proofs.Laws.Effects
 use Rattle.kernel.proofs.Laws.Uses
 use Rattle.objects.specs.declared.queue.Queue.{Queue}
-use Rattle.objects.specs.Queues.{emptyb, fullb, roomb, sizesFitb, leftPast, flushed, queueFitb}
+use Rattle.objects.specs.Queues.{emptyb, fullb, roomb, sizesFitb, leftPast, flushed}
 use Rattle.objects.proofs.Laws.Queues as Records
 use Rattle.kernel.specs.Queues as Calls
 
@@ -86,22 +85,12 @@ module _ (h : Held) (q : Queue) where
     wait-sender s = sym (ap (λ (b : Bool). if b then (fullb q && blankFrom (q .words) (h .message)) else emptyb q) s) ∙ wait-one
 
 module _ (k : Kernel) (b c : ℕ) (messages : List ℕ) (caller : ℕ) where
-  -- the first reason of most calls: no such queue
-  is-made : (n rest : ℕ) → firstOf (unless (queueAt k n .created) Statuses.queueError) rest ≡ 0 → queueAt k n .created ≡ true
-  is-made n rest e = Effects.is-true (queueAt k n .created) Statuses.queueError rest (omega arith) e
-
-  small : (n : ℕ) → Sound k → queueAt k n .created ≡ true → n < 8
-  small n S made = Objects.object-small queue k (S .fit) n made
-
-  fit : (n : ℕ) → Sound k → queueAt k n .created ≡ true → queueFitb (queueAt k n) ≡ true
-  fit n S made = Objects.object-fit queue k (S .fit) n made
-
   -- a receiver waits at an empty queue, which has room
   empty : (n : ℕ) → Sound k → (t : ℕ) → Taker queue k n t → emptyb (queueAt k n) ≡ true
   empty n S t T = wait-empty (heldAt k t) (queueAt k n) (Uses.taker-may queue k (S .fit) n t T) (T .1)
 
   room : (n : ℕ) → Sound k → (t : ℕ) → Taker queue k n t → queueAt k n .created ≡ true → roomb (queueAt k n) ≡ true
-  room n S t T made = Records.empty-room (queueAt k n) (fit n S made) made (empty n S t T)
+  room n S t T made = Records.empty-room (queueAt k n) (Objects.object-fit queue k (S .fit) n made) made (empty n S t T)
 
   -- ---- 22
   pub create-does : (n : ℕ) → Does.Does k caller 22 n b c messages (Calls.queueCreate k caller n b c)
@@ -120,7 +109,7 @@ module _ (k : Kernel) (b c : ℕ) (messages : List ℕ) (caller : ℕ) where
   sends number n wait front message S made none blank w f =
       Effects.proper-wait k (S .fit) number n S (w .1) queue front n wait (sending front message) (w .0)
       (Held.held-sending front message)
-      (sender-waits (sending front message) (queueAt k n) made refl (Records.no-room-full (queueAt k n) (fit n S made) made none) blank)
+      (sender-waits (sending front message) (queueAt k n) made refl (Records.no-room-full (queueAt k n) (Objects.object-fit queue k (S .fit) n made) made none) blank)
       (both front f)
     where
       both : (front : Bool) → implies front (eqb number 25) ≡ true → implies front (eqb number 25 && true && eqb n n) ≡ true
@@ -133,13 +122,13 @@ module _ (k : Kernel) (b c : ℕ) (messages : List ℕ) (caller : ℕ) where
   unfolding Effect.sendEffect Effect.storeEffect Refusals.sendRefusal mayMoveb mayb
   send-proper number n wait index front S runs z g s f =
       let message = messageIn messages index (queueAt k n .words) in
-      let made = is-made n _ z in
+      let made = Effects.is-true _ Statuses.queueError _ (omega arith) z in
       let may = Effects.is-true _ Statuses.waitError _ (omega arith) (second-none _ _ (second-none _ _ z)) in
       let some = unless-none _ Statuses.queueFull (omega arith) (second-none _ _ (second-none _ _ (second-none _ _ z))) in
       by-choice (Does.Proper k number n) (roomb (queueAt k n)) _ _
       (λ r. by-choice (Does.Proper k number n) (waitedb k queue n) _ _
       (λ q. Uses.serve-proper queue k (S .fit) n number n message q (and-in (eqb n n) _ (eq-eqb n n refl) g))
-      (λ q. Effects.proper-store k (S .fit) number n queue n _ noWords (Uses.unwaited queue k (S .fit) n _ (small n S made) (Records.sent-fit (queueAt k n) (fit n S made) made front message) q) (and-in (eqb n n) _ (eq-eqb n n refl) s)))
+      (λ q. Effects.proper-store k (S .fit) number n queue n _ noWords (Uses.unwaited queue k (S .fit) n _ (Objects.object-small queue k (S .fit) n made) (Records.sent-fit (queueAt k n) (Objects.object-fit queue k (S .fit) n made) made front message) q) (and-in (eqb n n) _ (eq-eqb n n refl) s)))
       (λ r. sends number n wait front message S made r (blank-message messages index (queueAt k n .words)) (Effects.waiter-runs k caller wait runs may (roomb (queueAt k n)) some r) f)
 
   send-is : (n wait : ℕ) (front : Bool) (message : List ℕ) → Calls.sendTo k n (queueAt k n) wait front message ≡ carriedOut k (Effect.sendEffect k n wait front message)
@@ -157,7 +146,7 @@ module _ (k : Kernel) (b c : ℕ) (messages : List ℕ) (caller : ℕ) where
 
   send-made : (n wait : ℕ) → Refusals.sendRefusal (queueAt k n) c (length messages) wait caller ≡ 0 → queueAt k n .created ≡ true
   unfolding Refusals.sendRefusal
-  send-made n wait z = is-made n _ z
+  send-made n wait z = Effects.is-true _ Statuses.queueError _ (omega arith) z
 
   pub send-does : (n wait : ℕ) → Does.Does k caller 24 n b c messages (Calls.queueSend k caller n wait c false messages)
   unfolding Calls.queueSend implies kindOf oneOf
@@ -201,15 +190,15 @@ module _ (k : Kernel) (b c : ℕ) (messages : List ℕ) (caller : ℕ) where
       let was : (u : ℕ) → 0 < count u (f ∷ []) → placedb (placeOf queue n) (threadOf k u) ≡ true = λ u l. ap (λ (v : ℕ). placedb (placeOf queue n) (threadOf k v)) (Effects.only-one f u l) ∙ p in
       Effects.proper-each (served queue n) noWords k F (f ∷ []) once was 26 n queue n x _
       (record {
-        small = small n S made;
-        fit = Records.past-fit q (fit n S made) made front message;
+        small = Objects.object-small queue k (S .fit) n made;
+        fit = Records.past-fit q (Objects.object-fit queue k (S .fit) n made) made front message;
         free = λ t l w o. (let e = Effects.each-left (served queue n) noWords k F (f ∷ []) once was queue t w .1 in
             let v = Objects.waits-here queue k F n t l (Changes.kept-waits k _ t 0 e 5 ∙ w) (Changes.kept-object k _ t 0 e ∙ o) in
             let s = wait-sends (heldAt k t) q v some in
             let bl = wait-sender (heldAt k t) q v s in
             let full = and-left (fullb q) (blankFrom (q .words) (heldAt k t .message)) bl in
             ap (λ (y : Held). queueWaitb y x) (e .held)
-            ∙ sender-waits (heldAt k t) x (a .0 ∙ made) s (Records.past-full q (fit n S made) made front message some full)
+            ∙ sender-waits (heldAt k t) x (a .0 ∙ made) s (Records.past-full q (Objects.object-fit queue k (S .fit) n made) made front message some full)
             (ap (λ (m : ℕ). blankFrom m (heldAt k t .message)) (a .1) ∙ and-right (fullb q) (blankFrom (q .words) (heldAt k t .message)) bl));
       })
       (λ t. Effects.here n) (Effects.here n)
@@ -229,14 +218,14 @@ module _ (k : Kernel) (b c : ℕ) (messages : List ℕ) (caller : ℕ) where
         reason = Refusals.receiveRefusal (queueAt k n) wait caller;
         effect = Effect.receiveEffect k n wait;
         is = ap (guarded k _) (receive-is n wait);
-        proper = λ S runs z. (let made = is-made n _ z in
+        proper = λ S runs z. (let made = Effects.is-true _ Statuses.queueError _ (omega arith) z in
             let may = Effects.is-true _ Statuses.waitError _ (omega arith) (second-none _ _ z) in
             let some = unless-none _ Statuses.queueEmpty (omega arith) (second-none _ _ (second-none _ _ z)) in
             by-choice (Does.Proper k 26 n) (emptyb (queueAt k n)) _ _
             (λ e. receives n wait S made e (Effects.waiter-runs k caller wait runs may (not (emptyb (queueAt k n))) some (ap not e)))
             (λ e. by-choice (Does.Proper k 26 n) (waitedb k queue n) _ _
             (λ q. past n _ S made e (Uses.first-waits queue k (S .fit) n q))
-            (λ q. Effects.proper-store k (S .fit) 26 n queue n _ _ (Uses.unwaited queue k (S .fit) n _ (small n S made) (Records.without-fit (queueAt k n) (fit n S made) made) q) (Effects.here n))));
+            (λ q. Effects.proper-store k (S .fit) 26 n queue n _ _ (Uses.unwaited queue k (S .fit) n _ (Objects.object-small queue k (S .fit) n made) (Records.without-fit (queueAt k n) (Objects.object-fit queue k (S .fit) n made) made) q) (Effects.here n))));
         role = λ S z. Effects.take-role k 26 n b c messages _ refl refl refl refl
             (record { served = λ a. never a refl; waits = λ a t T. rw (empty n S t T) refl });
       }
@@ -256,7 +245,7 @@ module _ (k : Kernel) (b c : ℕ) (messages : List ℕ) (caller : ℕ) where
         proper = λ S runs z. (let made = unless-none (queueAt k n .created) Statuses.queueError (omega arith) z in
             by-choice (Does.Proper k 27 n) (emptyb (queueAt k n)) _ _
             (λ e. Effects.proper-none k (S .fit) 27 n noWords)
-            (λ e. Uses.close-proper queue k (S .fit) n 27 n (served queue n) (flushed (queueAt k n)) (λ th p. p) (small n S made) (Records.flushed-fit (queueAt k n) (fit n S made) made) (λ t. Effects.here n) (Effects.here n)));
+            (λ e. Uses.close-proper queue k (S .fit) n 27 n (served queue n) (flushed (queueAt k n)) (λ th p. p) (Objects.object-small queue k (S .fit) n made) (Records.flushed-fit (queueAt k n) (Objects.object-fit queue k (S .fit) n made) made) (λ t. Effects.here n) (Effects.here n)));
         role = λ S z. record {
           creates = λ q. never q refl;
           takes = λ q. never q refl;

@@ -14,7 +14,6 @@ use Rattle.calls.specs.declared.held.Held.{Held}
 use Rattle.calls.specs.Held.{noWords, waiting}
 use Rattle.calls.specs.Statuses as Statuses
 use Rattle.calls.specs.Refusals
-use Rattle.calls.specs.Refusals.{unless, firstOf}
 use Rattle.waiting.specs.Fit.{semaphoreWaitb}
 use Rattle.kernel.specs.declared.Kernel.{Kernel}
 use Rattle.kernel.specs.Tables.{runnerOf, semaphoreAt}
@@ -40,13 +39,6 @@ use Rattle.objects.specs.Semaphores.{noSemaphore}
 use Rattle.kernel.specs.Semaphores as Calls
 
 module _ (k : Kernel) (b c : ℕ) (messages : List ℕ) (caller : ℕ) where
-  -- the first reason of most calls: no such semaphore
-  is-made : (n rest : ℕ) → firstOf (unless (semaphoreAt k n .created) Statuses.semaphoreError) rest ≡ 0 → semaphoreAt k n .created ≡ true
-  is-made n rest e = Effects.is-true (semaphoreAt k n .created) Statuses.semaphoreError rest (omega arith) e
-
-  small : (n : ℕ) → Sound k → semaphoreAt k n .created ≡ true → n < 16
-  small n S made = Objects.object-small semaphore k (S .fit) n made
-
   -- whoever waits, waits at count 0
   count-none : (n : ℕ) → Sound k → (t : ℕ) → Taker semaphore k n t → semaphoreAt k n .count ≡ 0
   unfolding semaphoreWaitb
@@ -68,7 +60,7 @@ module _ (k : Kernel) (b c : ℕ) (messages : List ℕ) (caller : ℕ) where
   taken n S made q =
       let l = ltb-true 0 (semaphoreAt k n .count) q in
       record {
-        small = small n S made;
+        small = Objects.object-small semaphore k (S .fit) n made;
         fit = refl;
         free = λ t. Objects.waits-not semaphore k (S .fit) n t (rw (made, ne-eqb (semaphoreAt k n .count) 0 (λ z. omega (arith, l, z))));
       }
@@ -88,7 +80,7 @@ module _ (k : Kernel) (b c : ℕ) (messages : List ℕ) (caller : ℕ) where
         reason = Refusals.semaphoreGetRefusal (semaphoreAt k n) wait caller;
         effect = Effect.semaphoreGetEffect k n wait;
         is = ap (guarded k (Refusals.semaphoreGetRefusal (semaphoreAt k n) wait caller)) (Effects.either k (ltb 0 (semaphoreAt k n .count)) _ _ _ _ refl refl);
-        proper = λ S runs z. (let made = is-made n _ z in
+        proper = λ S runs z. (let made = Effects.is-true _ Statuses.semaphoreError _ (omega arith) z in
             let may = Effects.is-true _ Statuses.waitError _ (omega arith) (second-none _ _ z) in
             let some = unless-none _ Statuses.noInstance (omega arith) (second-none _ _ (second-none _ _ z)) in
             by-choice (Does.Proper k 18 n) (ltb 0 (semaphoreAt k n .count)) _ _
@@ -110,7 +102,7 @@ module _ (k : Kernel) (b c : ℕ) (messages : List ℕ) (caller : ℕ) where
   put-proper number n S made g s =
       by-choice (Does.Proper k number n) (waitedb k semaphore n) _ _
       (λ q. Uses.serve-proper semaphore k (S .fit) n number n noWords q (and-in (eqb n n) _ (eq-eqb n n refl) g))
-      (λ q. Effects.proper-store k (S .fit) number n semaphore n _ noWords (Uses.unwaited semaphore k (S .fit) n _ (small n S made) refl q) (and-in (eqb n n) _ (eq-eqb n n refl) s))
+      (λ q. Effects.proper-store k (S .fit) number n semaphore n _ noWords (Uses.unwaited semaphore k (S .fit) n _ (Objects.object-small semaphore k (S .fit) n made) refl q) (and-in (eqb n n) _ (eq-eqb n n refl) s))
 
   put-is : (n : ℕ) → Calls.putOn k n ≡ carriedOut k (Effect.putEffect k n)
   unfolding Calls.putOn endWait woken carried carriedOut applied edited movers recordBy heldBy frontb endsb joined statusBy statusOf Effect.putEffect Effect.serveEffect Effect.storeEffect
@@ -143,7 +135,7 @@ module _ (k : Kernel) (b c : ℕ) (messages : List ℕ) (caller : ℕ) where
         reason = Refusals.ceilingRefusal (semaphoreAt k n) ceiling;
         effect = Effect.putEffect k n;
         is = ap (guarded k (Refusals.ceilingRefusal (semaphoreAt k n) ceiling)) (put-is n);
-        proper = λ S runs z. put-proper 20 n S (is-made n _ z) refl refl;
+        proper = λ S runs z. put-proper 20 n S (Effects.is-true _ Statuses.semaphoreError _ (omega arith) z) refl refl;
         role = λ S z. Effects.give-role k 20 n b c messages _ refl refl refl refl (put-gives n S);
       }
 

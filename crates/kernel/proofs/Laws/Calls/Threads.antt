@@ -22,7 +22,7 @@ use Rattle.scheduler.proofs.Laws.States
 use Rattle.calls.specs.declared.held.Held.{Held}
 use Rattle.calls.specs.Held.{noWords, oneWord, twoWords, noHeld, waiting}
 use Rattle.calls.specs.Statuses as Statuses
-use Rattle.calls.specs.Refusals.{unless, firstOf, finishedb, createRefusal, deleteRefusal, resumeRefusal, suspendRefusal, terminateRefusal, resetRefusal, threadOnlyRefusal, abortRefusal, priorityRefusal, preemptionRefusal, readRefusal}
+use Rattle.calls.specs.Refusals.{finishedb, createRefusal, deleteRefusal, resumeRefusal, suspendRefusal, terminateRefusal, resetRefusal, threadOnlyRefusal, abortRefusal, priorityRefusal, preemptionRefusal, readRefusal}
 use Rattle.kernel.specs.declared.Kernel.{Kernel}
 use Rattle.kernel.specs.Tables.{threadOf, runnerOf, heldAt, withScheduler, withHeld, given}
 use Rattle.kernel.specs.Answers.{carried, guarded}
@@ -120,10 +120,6 @@ module _ (k : Kernel) (F : Fit k) (t : ℕ) (made : threadOf k t .created ≡ tr
       }
 
 module _ (k : Kernel) (b c : ℕ) (messages : List ℕ) (caller : ℕ) where
-  -- the first reason of most calls: no such thread
-  is-made : (t rest : ℕ) → firstOf (unless (threadOf k t .created) Statuses.threadError) rest ≡ 0 → threadOf k t .created ≡ true
-  is-made t rest e = Effects.is-true (threadOf k t .created) Statuses.threadError rest (omega arith) e
-
   -- ---- 1
   create-new : (t p h start : ℕ) → Sound k → createRefusal t (threadOf k t) p h start caller ≡ 0 → Does.Proper k 1 t (Effect.createEffect t p h start)
   unfolding createRefusal Effect.createEffect created pausedb
@@ -151,7 +147,7 @@ module _ (k : Kernel) (b c : ℕ) (messages : List ℕ) (caller : ℕ) where
   unfolding Calls.threadDelete deleteRefusal uncreated given carried carriedOut applied edited movers recordBy heldBy frontb endsb joined statusOf Effect.deleteEffect kindOf oneOf
   delete-does t =
       Effects.plain-does k b c messages caller 2 t _ refl (deleteRefusal (threadOf k t) caller) (Effect.deleteEffect t) refl
-      (λ S runs z. Effects.proper-turn k (S .fit) 2 t t (λ th. uncreated) clears noWords false (small k (S .fit) t (is-made t _ z))
+      (λ S runs z. Effects.proper-turn k (S .fit) 2 t t (λ th. uncreated) clears noWords false (small k (S .fit) t (Effects.is-true _ Statuses.threadError _ (omega arith) z))
       (States.rest-not-paused (threadOf k t) (finished-low (threadOf k t) (unless-none _ Statuses.deleteError (omega arith) (second-none _ _ (second-none _ _ z))))) States.fit-none (omega arith) Held.held-none)
 
   -- ---- 3
@@ -173,8 +169,8 @@ module _ (k : Kernel) (b c : ℕ) (messages : List ℕ) (caller : ℕ) where
       (ap (guarded k (resumeRefusal (threadOf k t)))
       (Effects.either k (threadOf k t .suspending) _ _ _ _ refl (carries-kept k t (atRest 0) noWords)))
       (λ S runs z. by-choice (Does.Proper k 3 t) (threadOf k t .suspending) _ _
-      (λ q. lifts t S (is-made t _ z))
-      (λ q. rested k (S .fit) t (is-made t _ z) 3 t 0 (omega arith) (suspended-low (threadOf k t) q (unless-none _ Statuses.resumeError (omega arith) (second-none _ _ z)))))
+      (λ q. lifts t S (Effects.is-true _ Statuses.threadError _ (omega arith) z))
+      (λ q. rested k (S .fit) t (Effects.is-true _ Statuses.threadError _ (omega arith) z) 3 t 0 (omega arith) (suspended-low (threadOf k t) q (unless-none _ Statuses.resumeError (omega arith) (second-none _ _ z)))))
 
   -- ---- 4
   pub suspend-does : (t : ℕ) → Does.Does k caller 4 t b c messages (Calls.threadSuspend k t)
@@ -185,9 +181,9 @@ module _ (k : Kernel) (b c : ℕ) (messages : List ℕ) (caller : ℕ) where
       (Effects.either k (pausedb (threadOf k t)) _ _ _ _ refl
       (Effects.either k (readyb (threadOf k t)) _ _ _ _ (carries-kept k t (atRest 3) noWords) refl)))
       (λ S runs z. by-choice (Does.Proper k 4 t) (pausedb (threadOf k t)) _ _
-      (λ q. Effects.proper-alter k (S .fit) 4 t t (withSuspension true) noWords (suspension k (S .fit) t (is-made t _ z) true (λ w. q)) refl)
+      (λ q. Effects.proper-alter k (S .fit) 4 t t (withSuspension true) noWords (suspension k (S .fit) t (Effects.is-true _ Statuses.threadError _ (omega arith) z) true (λ w. q)) refl)
       (λ q. by-choice (Does.Proper k 4 t) (readyb (threadOf k t)) _ _
-      (λ r. rested k (S .fit) t (is-made t _ z) 4 t 3 (omega arith) (ready-low (threadOf k t) r))
+      (λ r. rested k (S .fit) t (Effects.is-true _ Statuses.threadError _ (omega arith) z) 4 t 3 (omega arith) (ready-low (threadOf k t) r))
       (λ r. Effects.proper-none k (S .fit) 4 t noWords)))
 
   -- ---- 5
@@ -211,7 +207,7 @@ module _ (k : Kernel) (b c : ℕ) (messages : List ℕ) (caller : ℕ) where
         reason = terminateRefusal (threadOf k t) caller;
         effect = Effect.terminateEffect k t;
         is = ap (guarded k (terminateRefusal (threadOf k t) caller)) (Effects.either k (finishedb (threadOf k t)) _ _ _ _ refl refl);
-        proper = λ S runs z. by-choice (Does.Proper k 5 t) (finishedb (threadOf k t)) _ _ (λ q. Effects.proper-none k (S .fit) 5 t noWords) (λ q. stops-proper t S (is-made t _ z));
+        proper = λ S runs z. by-choice (Does.Proper k 5 t) (finishedb (threadOf k t)) _ _ (λ q. Effects.proper-none k (S .fit) 5 t noWords) (λ q. stops-proper t S (Effects.is-true _ Statuses.threadError _ (omega arith) z));
         role = λ S z. record { creates = λ q. never q refl; takes = λ q. never q refl; gives = λ q. never q refl; empties = λ q. never q refl; terminates = λ q. refl; aborts = λ q. absurd (omega (arith, q)); ticks = λ q. absurd (omega (arith, q)) };
       }
 
@@ -220,7 +216,7 @@ module _ (k : Kernel) (b c : ℕ) (messages : List ℕ) (caller : ℕ) where
   unfolding Calls.threadReset resetRefusal given carried carriedOut applied edited movers recordBy heldBy frontb endsb joined statusOf Effect.restEffect kindOf oneOf
   reset-does t =
       Effects.plain-does k b c messages caller 6 t _ refl (resetRefusal (threadOf k t) caller) (Effect.restEffect t 3) refl
-      (λ S runs z. rests k (S .fit) t (is-made t _ z) 6 t 3 (omega arith) (finished-low (threadOf k t) (unless-none _ Statuses.notDone (omega arith) (second-none _ _ (second-none _ _ z)))))
+      (λ S runs z. rests k (S .fit) t (Effects.is-true _ Statuses.threadError _ (omega arith) z) 6 t 3 (omega arith) (finished-low (threadOf k t) (unless-none _ Statuses.notDone (omega arith) (second-none _ _ (second-none _ _ z)))))
 
   -- ---- 7, 8, 9: the running thread
   runner-small : (eqb caller 2 ≡ true → runnerOf k < 32) → threadOnlyRefusal caller ≡ 0 → runnerOf k < 32
@@ -302,14 +298,14 @@ module _ (k : Kernel) (b c : ℕ) (messages : List ℕ) (caller : ℕ) where
   priority-does t p =
       Effects.plain-does k b c messages caller 11 t _ refl (priorityRefusal (threadOf k t) p caller) (Effect.priorityEffect k t p)
       (ap (guarded k (priorityRefusal (threadOf k t) p caller)) (priority-is t p))
-      (λ S runs z. changes t p S (is-made t _ z) (ltb-true p 32 (Effects.is-true (ltb p 32) Statuses.priorityError _ (omega arith) (second-none _ _ z))))
+      (λ S runs z. changes t p S (Effects.is-true _ Statuses.threadError _ (omega arith) z) (ltb-true p 32 (Effects.is-true (ltb p 32) Statuses.priorityError _ (omega arith) (second-none _ _ z))))
 
   pub preemption-does : (t h : ℕ) → Does.Does k caller 12 t b c messages (Calls.threadPreemptionChange k caller t h)
   unfolding Calls.threadPreemptionChange preemptionRefusal preemptionChanged withLevels carried carriedOut applied edited movers statusOf Effect.preemptionEffect kindOf oneOf
   preemption-does t h =
       Effects.plain-does k b c messages caller 12 t _ refl (preemptionRefusal (threadOf k t) h caller) (Effect.preemptionEffect k t h) refl
       (λ S runs z. Effects.proper-alter k (S .fit) 12 t t (λ th. withLevels (th .priority) h th) _
-      (threshold k (S .fit) t (is-made t _ z) h (leb-true h (threadOf k t .priority) (Effects.is-true _ Statuses.threshError _ (omega arith) (second-none _ _ z)))) refl)
+      (threshold k (S .fit) t (Effects.is-true _ Statuses.threadError _ (omega arith) z) h (leb-true h (threadOf k t .priority) (Effects.is-true _ Statuses.threshError _ (omega arith) (second-none _ _ z)))) refl)
 
   -- ---- 38, 39
   pub state-does : (t : ℕ) → Does.Does k caller 38 t b c messages (Calls.threadStateRead k t)
