@@ -91,29 +91,35 @@ unfoldable pub applied : Kernel → List Edit → Kernel
 applied k [] = k
 applied k (e ∷ es) = applied (edited k e) es
 
--- ---- who moves in some way, in order
+-- ---- who moves in some way: by one edit, and by all, in order
+abbrev pub mover : (Move → Bool) → Edit → List ℕ
+mover c (moves t m) = onlyIf (c m) t
+mover c (alters t f) = []
+mover c (counts t) = []
+mover c (ranks d n) = []
+mover c (stores d n x) = []
+mover c (sets n) = []
+
 unfoldable pub movers : (Move → Bool) → List Edit → List ℕ
 movers c [] = []
-movers c (moves t m ∷ es) = if c m then t ∷ movers c es else movers c es
-movers c (alters t f ∷ es) = movers c es
-movers c (counts t ∷ es) = movers c es
-movers c (ranks d n ∷ es) = movers c es
-movers c (stores d n x ∷ es) = movers c es
-movers c (sets n ∷ es) = movers c es
+movers c (e ∷ es) = mover c e ++ movers c es
 
 -- whoever moves
 abbrev pub anyb : Move → Bool
 anyb m = true
 
 -- whose timed waits have one tick less
+abbrev pub countedBy : Edit → List ℕ
+countedBy (moves t m) = []
+countedBy (alters t f) = []
+countedBy (counts t) = t ∷ []
+countedBy (ranks d n) = []
+countedBy (stores d n x) = []
+countedBy (sets n) = []
+
 unfoldable pub counted : List Edit → List ℕ
 counted [] = []
-counted (moves t m ∷ es) = counted es
-counted (alters t f ∷ es) = counted es
-counted (counts t ∷ es) = t ∷ counted es
-counted (ranks d n ∷ es) = counted es
-counted (stores d n x ∷ es) = counted es
-counted (sets n ∷ es) = counted es
+counted (e ∷ es) = countedBy e ++ counted es
 
 -- a wait ends with a status; a wait begins
 unfoldable pub endsb : Move → Bool

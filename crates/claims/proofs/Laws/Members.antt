@@ -20,7 +20,7 @@ use Rattle.waiting.specs.Ticks.{forever, timedb, lastTickb}
 use Rattle.kernel.specs.declared.Kernel.{Kernel}
 use Rattle.kernel.specs.Tables.{threadOf, heldAt}
 use Rattle.kernel.specs.Waits.{oneMore}
-use Rattle.kernel.specs.Edits.{Edit, counted, movers, leavesb}
+use Rattle.kernel.specs.Edits.{Edit, countedBy, counted, movers, leavesb}
 use Rattle.kernel.specs.Edits.Edit.{moves, alters, counts, ranks, stores, sets}
 use Rattle.kernel.specs.Effects.{tickOf, ticksBelow, tickEffect}
 use Rattle.kernel.proofs.Laws.Lines
@@ -165,12 +165,7 @@ counted-by th t = by-test (lastTickb th) (λ e. rw e) (λ e. by-test (timedb th)
 pub counted-append : (es fs : List Edit) → counted (es ++ fs) ≡ counted es ++ counted fs
 unfolding counted
 counted-append [] fs = refl
-counted-append (moves t m ∷ es) fs = counted-append es fs
-counted-append (alters t f ∷ es) fs = counted-append es fs
-counted-append (counts t ∷ es) fs = ap (λ (l : List ℕ). t ∷ l) (counted-append es fs)
-counted-append (ranks d n ∷ es) fs = counted-append es fs
-counted-append (stores d n x ∷ es) fs = counted-append es fs
-counted-append (sets c ∷ es) fs = counted-append es fs
+counted-append (e ∷ es) fs = ap (λ (l : List ℕ). countedBy e ++ l) (counted-append es fs) ∙ sym (append-assoc (countedBy e) (counted es) (counted fs))
 
 module _ (p : Place) (k x : Kernel) where
   abbrev ts : List ℕ

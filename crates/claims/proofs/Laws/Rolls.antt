@@ -126,7 +126,7 @@ module _ (d : Kind) (o : rolledb d ≡ true) (n t : ℕ) (k : Kernel) (r : List 
       first-passes g =
           let f = firstAt (k .scheduler) p in
           Members.passes-first p k x (F .steady) r t (L .stands)
-          (subst (λ (b : Bool). Members.Leaves p k x (if b then f ∷ [] else []) []) (Lines.place-same p p refl) (left-by _ (ap (λ (y : Effect). y .edits) (first-served g)))) (L .rolls)
+          (subst (λ (b : Bool). Members.Leaves p k x ((if b then f ∷ [] else []) ++ []) []) (Lines.place-same p p refl) (left-by _ (ap (λ (y : Effect). y .edits) (first-served g)))) (L .rolls)
 
       named-by : (ts : List ℕ) → Members.Leaves p k x ts [] → limitOf (m .number) ≡ 32 → without (target m) (names r) ≡ less ts (names r) → Members.Passes p k x r (each (unnamed (m .a)) r)
       named-by ts A l s = Members.passes-named p k x ts (m .a) r A (L .rolls) (same-target l ∙ s)

@@ -1,6 +1,6 @@
 -- What becomes of each thread by any edits: its record, its ticks and what it holds.
 use mathlib.Core.Path.{_≡_, refl, sym, ap, _∙_}
-use mathlib.Core.List.{List, [], _∷_}
+use mathlib.Core.List.{List, [], _∷_, _++_, append-nil}
 use mathlib.Core.Bool.{Bool, true, false}
 use Prim.Native.Nat.{ℕ, _+_, _-_}
 use native.Mathlib.Omega.{arith}
@@ -24,7 +24,7 @@ use Rattle.waiting.proofs.Laws.Fit.{waits-nowhere}
 use Rattle.kernel.specs.declared.Kernel.{Kernel}
 use Rattle.kernel.specs.Tables.{threadOf, heldAt, withScheduler, withHeld, withClock}
 use Rattle.kernel.specs.Kinds.{Kind, stateOn}
-use Rattle.kernel.specs.Edits.{Move, Edit, recordBy, heldBy, frontb, startsb, anyb, edited, applied, movers, counted}
+use Rattle.kernel.specs.Edits.{Move, Edit, recordBy, heldBy, frontb, startsb, anyb, edited, applied, movers, countedBy, counted}
 use Rattle.kernel.specs.Edits.Edit.{moves, alters, counts, ranks, stores, sets}
 use Rattle.kernel.specs.Roles.{allb}
 use Rattle.kernel.proofs.Laws.Objects
@@ -113,12 +113,7 @@ kept-edit k S (sets c) G u z = kept-clock k c u
 
 counted-then : (e : Edit) (es : List Edit) (u : ℕ) → count u (counted (e ∷ es)) ≡ count u (counted (e ∷ [])) + count u (counted es)
 unfolding counted
-counted-then (moves t m) es u = Lists.count-append u [] (counted es)
-counted-then (alters t f) es u = Lists.count-append u [] (counted es)
-counted-then (counts t) es u = Lists.count-append u (t ∷ []) (counted es)
-counted-then (ranks d n) es u = Lists.count-append u [] (counted es)
-counted-then (stores d n x) es u = Lists.count-append u [] (counted es)
-counted-then (sets c) es u = Lists.count-append u [] (counted es)
+counted-then e es u = ap (λ (l : List ℕ). count u (l ++ counted es)) (sym (append-nil (countedBy e))) ∙ Lists.count-append u (countedBy e ++ []) (counted es)
 
 pub movers-count : (c : Move → Bool) (e : Edit) (es : List Edit) (u : ℕ) → count u (movers c (e ∷ es)) ≡ count u (movers c (e ∷ [])) + count u (movers c es)
 movers-count c e es u = ap (count u) (Lines.movers-then c e es) ∙ Lists.count-append u (movers c (e ∷ [])) (movers c es)

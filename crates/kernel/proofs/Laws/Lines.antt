@@ -1,6 +1,6 @@
 -- The line of every place after any edits.
 use mathlib.Core.Path.{_≡_, refl, sym, ap, _∙_}
-use mathlib.Core.List.{List, [], _∷_, _++_, append-nil}
+use mathlib.Core.List.{List, [], _∷_, _++_, append-nil, append-assoc}
 use mathlib.Core.Bool.{Bool, true, false, not}
 use Prim.Native.Nat.{ℕ, _<_}
 use lib.Dec.{eqb}
@@ -21,7 +21,7 @@ use Rattle.scheduler.proofs.Laws.Orders
 use Rattle.kernel.specs.declared.Kernel.{Kernel}
 use Rattle.kernel.specs.Tables.{threadOf, withScheduler, withHeld, withClock}
 use Rattle.kernel.specs.Kinds.{placeOf}
-use Rattle.kernel.specs.Edits.{Move, Edit, recordBy, frontb, startsb, leavesb, sameb, edited, applied, movers, lineBy, linesBy}
+use Rattle.kernel.specs.Edits.{Move, Edit, recordBy, frontb, startsb, leavesb, sameb, edited, applied, mover, movers, lineBy, linesBy}
 use Rattle.kernel.specs.Edits.Cause.{served, deleted, timedOut, aborted}
 use Rattle.kernel.specs.Edits.Move.{ends, starts, stops, turns}
 use Rattle.kernel.specs.Edits.Edit.{moves, alters, counts, ranks, stores, sets}
@@ -73,31 +73,12 @@ line-after k S (e ∷ es) G p = line-after (edited k e) (Fits.steady-edit k S e 
 -- ---- who moves, edit by edit
 pub movers-then : (c : Move → Bool) (e : Edit) (es : List Edit) → movers c (e ∷ es) ≡ movers c (e ∷ []) ++ movers c es
 unfolding movers
-movers-then c (moves t m) es = both (c m)
-  where
-    both : (b : Bool) → (if b then t ∷ movers c es else movers c es) ≡ (if b then t ∷ [] else []) ++ movers c es
-    both true = refl
-    both false = refl
-movers-then c (alters t f) es = refl
-movers-then c (counts t) es = refl
-movers-then c (ranks d n) es = refl
-movers-then c (stores d n x) es = refl
-movers-then c (sets n) es = refl
+movers-then c e es = ap (λ (l : List ℕ). l ++ movers c es) (sym (append-nil (mover c e)))
 
 pub movers-append : (c : Move → Bool) (es fs : List Edit) → movers c (es ++ fs) ≡ movers c es ++ movers c fs
 unfolding movers
 movers-append c [] fs = refl
-movers-append c (moves t m ∷ es) fs = both (c m) (movers-append c es fs)
-  where
-    both : (b : Bool) → movers c (es ++ fs) ≡ movers c es ++ movers c fs
-        → (if b then t ∷ movers c (es ++ fs) else movers c (es ++ fs)) ≡ (if b then t ∷ movers c es else movers c es) ++ movers c fs
-    both true e = ap (λ (l : List ℕ). t ∷ l) e
-    both false e = e
-movers-append c (alters t f ∷ es) fs = movers-append c es fs
-movers-append c (counts t ∷ es) fs = movers-append c es fs
-movers-append c (ranks d n ∷ es) fs = movers-append c es fs
-movers-append c (stores d n x ∷ es) fs = movers-append c es fs
-movers-append c (sets n ∷ es) fs = movers-append c es fs
+movers-append c (e ∷ es) fs = ap (λ (l : List ℕ). mover c e ++ l) (movers-append c es fs) ∙ sym (append-assoc (mover c e) (movers c es) (movers c fs))
 
 -- ---- tests of edits
 -- nobody begins to wait
@@ -159,7 +140,7 @@ module _ (p : Place) (waiters : 4 < p .state) where
   behind stops n = refl
   behind (turns f g) n = refl
 
-  left : (k : Kernel) → Steady (k .scheduler) → (t : ℕ) (m : Move) → Fits.Was m (threadOf k t) → without t (lineAt (k .scheduler) p) ≡ less (if leavesb p m then t ∷ [] else []) (lineAt (k .scheduler) p)
+  left : (k : Kernel) → Steady (k .scheduler) → (t : ℕ) (m : Move) → Fits.Was m (threadOf k t) → without t (lineAt (k .scheduler) p) ≡ less (onlyIf (leavesb p m) t) (lineAt (k .scheduler) p)
   unfolding oneIf
   left k S t m w =
       by-test (leavesb p m)
@@ -172,7 +153,7 @@ module _ (p : Place) (waiters : 4 < p .state) where
   unfolding lineBy movers unstartedb unrankedb
   waiters-edit k S (moves t m) G u r =
       let n = not-no (startsb m) u in
-      line-edit k S (moves t m) G p ∙ rw (behind m n, unplaced k t m G n) (append-nil (without t (lineAt (k .scheduler) p)) ∙ left k S t m (G .was))
+      line-edit k S (moves t m) G p ∙ rw (behind m n, unplaced k t m G n) (append-nil (without t (lineAt (k .scheduler) p)) ∙ left k S t m (G .was) ∙ ap (λ (ts : List ℕ). less ts (lineAt (k .scheduler) p)) (sym (append-nil (onlyIf (leavesb p m) t))))
   waiters-edit k S (alters t f) G u r = line-edit k S (alters t f) G p ∙ sym (Less.less-none (lineAt (k .scheduler) p))
   waiters-edit k S (counts t) G u r = line-edit k S (counts t) G p ∙ sym (Less.less-none (lineAt (k .scheduler) p))
   waiters-edit k S (ranks d n) G u r = line-edit k S (ranks d n) G p ∙ rw (not-no (sameb p (placeOf d n)) r) (sym (Less.less-none (lineAt (k .scheduler) p)))
