@@ -14,7 +14,7 @@ use Rattle.waiting.specs.Ticks.{forever}
 use Rattle.kernel.specs.declared.Kernel.{Kernel}
 use Rattle.kernel.specs.declared.Answer.{Answer}
 use Rattle.kernel.specs.Tables.{started, runnerOf, heldAt, semaphoreAt, queueAt, groupAt, poolAt}
-use Rattle.kernel.specs.Semaphores.{semaphorePlace}
+use Rattle.kernel.specs.Kinds.{Kind, placeOf}
 use Rattle.kernel.specs.Views.{blockView}
 use Rattle.claims.specs.Lists.{answer}
 
@@ -101,7 +101,7 @@ pub record Cases : Type 0 where
   pub p8view : blockView p8 0 2 (numbersFrom 0 100) ≡ numbersFrom 44 16
   pub p8released : (said p8 36 thread 0 2 0 0 .status ≡ Statuses.success) × (said (after p8 36 thread 0 2 0 0) 36 thread 0 2 0 0 .status ≡ Statuses.ptrError)
   -- P9: waiters of priority 20, 5, 5: prioritise moves the middle one first
-  pub p9line : lineAt (after p9 21 startup 0 0 0 0 .scheduler) (semaphorePlace 0) ≡ 1 ∷ 0 ∷ 2 ∷ []
+  pub p9line : lineAt (after p9 21 startup 0 0 0 0 .scheduler) (placeOf Kind.semaphore 0) ≡ 1 ∷ 0 ∷ 2 ∷ []
   -- P10: count 3: ceiling 3 is 0x21, ceiling 4 done
   pub p10 : (said (withCount 3) 20 interrupt 0 3 0 0 .status ≡ Statuses.ceilingExceeded) × (said (withCount 3) 20 interrupt 0 4 0 0 .status ≡ Statuses.success)
   -- get, wait 1, count 0, one tick: held 0x0D

@@ -16,7 +16,7 @@ use Rattle.kernel.specs.Tables.{threadOf, heldAt}
 use Rattle.kernel.specs.Kinds.{Kind, placeOf}
 use Rattle.kernel.specs.Kinds.Kind.{queue}
 use Rattle.kernel.specs.Roles.{rowOf, oneOf}
-use Rattle.kernel.specs.Effects.{rolledb, givenWords}
+use Rattle.kernel.specs.Uses.{rolledb, givenWords}
 use Rattle.claims.specs.Lists.{Request, answer, next, after}
 
 -- ---- the object, by its kind and number: which calls are its own is in the table of roles

@@ -1,8 +1,11 @@
 pub mod Answers
+pub mod Arms
+pub mod Reads
+pub mod Edits
+pub mod Objects
 pub mod Waits
 pub mod Groups
 pub mod Sound
-pub mod Objects
 pub mod Fits
 pub mod Lines
 pub mod Changes
@@ -12,7 +15,5 @@ pub mod Uses
 pub mod Calls
 pub mod Services
 pub mod Claims
-pub mod Reads
-pub mod Arms
 pub mod Records
 pub mod Runs

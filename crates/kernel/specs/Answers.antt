@@ -3,8 +3,6 @@ use mathlib.Core.List.{List, []}
 use mathlib.Core.Bool.{false}
 use Prim.Native.Nat.{ℕ}
 use lib.ListN.{length}
-use lib.Dec.{eqb}
-use Rattle.lines.specs.Logic.{if_then_else_}
 use Rattle.scheduler.specs.declared.Scheduler.{Scheduler}
 use Rattle.scheduler.specs.Choice.{rescheduled}
 use Rattle.calls.specs.Held.{noWords}
@@ -26,14 +24,6 @@ answerOf o = record { status = o .status; words = o .words; next = o .kernel .sc
 -- "All others are refusals: tables unchanged, words and count zero, next thread as running before"
 unfoldable pub refused : Kernel → ℕ → Outcome
 refused k status = record { status = status; words = noWords; ended = []; kernel = k }
-
--- a call that is carried out: the choice of the next thread follows
-unfoldable pub carried : Kernel → ℕ → List ℕ → List ℕ → Outcome
-carried k status words ended = record { status = status; words = words; ended = ended; kernel = withScheduler k (rescheduled (k .scheduler) false) }
-
--- refused for the first reason that holds, otherwise carried out
-unfoldable pub guarded : Kernel → ℕ → Outcome → Outcome
-guarded k reason o = if eqb reason 0 then o else refused k reason
 
 -- the answer of a call that is carried out with the scheduler s and so many ended waits
 unfoldable pub answered : Kernel → Scheduler → ℕ → List ℕ → ℕ → Answer

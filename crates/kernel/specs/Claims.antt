@@ -13,7 +13,7 @@ use Rattle.kernel.specs.declared.Kernel.{Kernel}
 use Rattle.kernel.specs.Answers.{Outcome, refused}
 use Rattle.kernel.specs.Edits.{Effect, anyb, movers, linesBy, carriedOut}
 use Rattle.kernel.specs.Roles.{limitOf, mayb, allb}
-use Rattle.kernel.specs.Effects.{Role}
+use Rattle.kernel.specs.Uses.{Role}
 use Rattle.kernel.specs.General.{step}
 use Rattle.kernel.specs.Sound.{Sound}
 

@@ -1,22 +1,37 @@
--- Calls 13 to 15.
-use mathlib.Core.List.{[]}
-use Prim.Native.Nat.{ℕ}
+-- What calls 13 to 15 do.
+use mathlib.Core.List.{List, [], _∷_, _++_}
+use Prim.Native.Nat.{ℕ, zero, suc}
+use Rattle.lines.specs.Logic.{if_then_else_}
+use Rattle.scheduler.specs.declared.thread.Thread.{Thread}
 use Rattle.calls.specs.Held.{noWords, oneWord}
-use Rattle.calls.specs.Statuses as Statuses
-use Rattle.calls.specs.Refusals.{tickRefusal}
+use Rattle.waiting.specs.Ticks.{timedb, lastTickb}
 use Rattle.kernel.specs.declared.Kernel.{Kernel}
-use Rattle.kernel.specs.Tables.{withClock}
-use Rattle.kernel.specs.Answers.{Outcome, carried, guarded}
-use Rattle.kernel.specs.Waits.{timedOut, ticked}
+use Rattle.kernel.specs.Tables.{threadOf}
+use Rattle.kernel.specs.Edits.{Edit, Effect}
+use Rattle.kernel.specs.Edits.Cause.{timedOut}
+use Rattle.kernel.specs.Edits.Move.{ends}
+use Rattle.kernel.specs.Edits.Edit.{moves, counts, sets}
+use Rattle.kernel.specs.Effects.{gives, does, oneMore}
 
 -- 13 get: word 0 is the clock
-unfoldable pub timeGet : Kernel → Outcome
-timeGet k = carried k Statuses.success (oneWord (k .clock)) []
+unfoldable pub clockEffect : Kernel → Effect
+clockEffect k = gives (oneWord (k .clock)) []
 
 -- 14 set: moves no wait
-unfoldable pub timeSet : Kernel → ℕ → Outcome
-timeSet k time = carried (withClock k time) Statuses.success noWords []
+unfoldable pub clockSetEffect : ℕ → Effect
+clockSetEffect time = does (sets time ∷ [])
 
--- 15 tick
-unfoldable pub tick : Kernel → ℕ → Outcome
-tick k caller = guarded k (tickRefusal caller) (carried (ticked k) Statuses.success noWords (timedOut 32 k))
+-- 15 tick. One tick of thread t with this record: a timed wait has one tick less, and ends where none is left
+unfoldable pub tickOf : Thread → ℕ → List Edit
+tickOf th t =
+    if lastTickb th then moves t (ends timedOut noWords) ∷ []
+    else if timedb th then counts t ∷ []
+    else []
+
+-- of threads 0 to n - 1, in this order
+unfoldable pub ticksBelow : ℕ → Kernel → List Edit
+ticksBelow zero k = []
+ticksBelow (suc n) k = ticksBelow n k ++ tickOf (threadOf k n) n
+
+unfoldable pub tickEffect : Kernel → Effect
+tickEffect k = does (ticksBelow 32 k ++ (sets (oneMore (k .clock)) ∷ []))

@@ -1,4 +1,5 @@
 -- What a call does to the tables, as a list of edits, each with its cause.
+use mathlib.Core.Path.{_≡_}
 use mathlib.Core.List.{List, [], _∷_, _++_}
 use mathlib.Core.Bool.{Bool, true, false, _&&_, not}
 use Prim.Native.Nat.{ℕ, _-_}
@@ -16,7 +17,7 @@ use Rattle.calls.specs.Statuses as Statuses
 use Rattle.waiting.specs.Ticks.{timeoutStatus, withTicks}
 use Rattle.kernel.specs.declared.Kernel.{Kernel}
 use Rattle.kernel.specs.Tables.{threadOf, heldAt, withScheduler, withHeld, withClock}
-use Rattle.kernel.specs.Answers.{Outcome}
+use Rattle.kernel.specs.Answers.{Outcome, refused}
 use Rattle.kernel.specs.Kinds.{Kind, Object, placeOf, withObject}
 
 -- ---- why a wait ends: it is served by its object, its object is deleted, its last tick has passed, it is aborted
@@ -32,6 +33,10 @@ statusBy (served d n) th h = Statuses.success
 statusBy (deleted d n) th h = Statuses.deleted
 statusBy timedOut th h = timeoutStatus th h
 statusBy aborted th h = Statuses.waitAborted
+
+-- whoever's wait ends for that cause holds this status
+abbrev pub Holds : Cause → ℕ → Type 0
+Holds c status = (th : Thread) (h : Held) → statusBy c th h ≡ status
 
 -- ---- how a thread changes that leaves its order and joins another, or none
 pub data Move : Type 0 where
@@ -91,7 +96,12 @@ unfoldable pub applied : Kernel → List Edit → Kernel
 applied k [] = k
 applied k (e ∷ es) = applied (edited k e) es
 
--- ---- who moves in some way: by one edit, and by all, in order
+-- what each edit names, in order
+unfoldable pub gathered : (Edit → List ℕ) → List Edit → List ℕ
+gathered f [] = []
+gathered f (e ∷ es) = f e ++ gathered f es
+
+-- ---- who moves in some way: by one edit, and by all
 abbrev pub mover : (Move → Bool) → Edit → List ℕ
 mover c (moves t m) = onlyIf (c m) t
 mover c (alters t f) = []
@@ -100,9 +110,8 @@ mover c (ranks d n) = []
 mover c (stores d n x) = []
 mover c (sets n) = []
 
-unfoldable pub movers : (Move → Bool) → List Edit → List ℕ
-movers c [] = []
-movers c (e ∷ es) = mover c e ++ movers c es
+abbrev pub movers : (Move → Bool) → List Edit → List ℕ
+movers c es = gathered (mover c) es
 
 -- whoever moves
 abbrev pub anyb : Move → Bool
@@ -117,9 +126,8 @@ countedBy (ranks d n) = []
 countedBy (stores d n x) = []
 countedBy (sets n) = []
 
-unfoldable pub counted : List Edit → List ℕ
-counted [] = []
-counted (e ∷ es) = countedBy e ++ counted es
+abbrev pub counted : List Edit → List ℕ
+counted es = gathered countedBy es
 
 -- a wait ends with a status; a wait begins
 unfoldable pub endsb : Move → Bool
@@ -192,3 +200,7 @@ carriedOut k e =
       ended = movers endsb (e .edits);
       kernel = withScheduler (applied k (e .edits)) (rescheduled (applied k (e .edits) .scheduler) (e .relinquishes));
     }
+
+-- refused for the first reason that holds, otherwise carried out
+unfoldable pub guarded : Kernel → ℕ → Effect → Outcome
+guarded k reason e = if eqb reason 0 then carriedOut k e else refused k reason

@@ -28,12 +28,12 @@ rowOf group = record { creates = 29 ∷ []; deletes = 30 ∷ []; takes = 32 ∷ 
 rowOf pool = record { creates = 33 ∷ []; deletes = 34 ∷ []; takes = 35 ∷ []; gives = 36 ∷ []; prioritises = 37 ∷ []; empties = [] }
 
 -- a number is one of a list
-unfoldable pub oneOf : ℕ → List ℕ → Bool
+abbrev pub oneOf : ℕ → List ℕ → Bool
 oneOf n [] = false
 oneOf n (m ∷ ms) = eqb n m || oneOf n ms
 
 -- the kind of object that a call's first argument names, and how many such objects, or else threads, there are
-unfoldable pub kindOf : ℕ → Kind
+abbrev pub kindOf : ℕ → Kind
 kindOf n = if ltb n 22 then semaphore else if ltb n 29 then queue else if ltb n 33 then group else pool
 
 unfoldable pub limitOf : ℕ → ℕ

@@ -73,7 +73,3 @@ withPool k n p = record { scheduler = k .scheduler; held = k .held; semaphores =
 
 unfoldable pub withClock : Kernel → ℕ → Kernel
 withClock k c = record { scheduler = k .scheduler; held = k .held; semaphores = k .semaphores; queues = k .queues; groups = k .groups; pools = k .pools; clock = c }
-
--- thread t gets a record, joins the end of its order, and holds h
-unfoldable pub given : Kernel → ℕ → Thread → Held → Kernel
-given k t th h = withHeld (withScheduler k (Orders.moved (k .scheduler) t th)) t h

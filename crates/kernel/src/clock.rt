@@ -1,7 +1,9 @@
 // Clock services.
 ghost use mathlib.Core.Path.{_≡_};
+ghost use Rattle.calls.specs.Refusals.{tickRefusal};
 ghost use Rattle.kernel.specs.Answers.{answerOf};
-ghost use Rattle.kernel.specs.Clock.{timeGet, timeSet, tick};
+ghost use Rattle.kernel.specs.Edits.{guarded};
+ghost use Rattle.kernel.specs.Clock.{clockEffect, clockSetEffect, tickEffect};
 use super::Answer;
 use super::Kernel;
 use super::two_words;
@@ -16,7 +18,7 @@ use waiting::ticks::with_ticks;
 
 impl Kernel {
     pub(crate) fn time_get(self) -> Answer
-        ensures { λ r. ⌜ r ≡ answerOf (timeGet self) ⌝ }
+        ensures { λ r. ⌜ r ≡ answerOf (guarded self 0 (clockEffect self)) ⌝ }
     {
         let s = self.scheduler;
         let words = two_words(self.clock, 0);
@@ -24,7 +26,7 @@ impl Kernel {
     }
 
     pub(crate) fn time_set(mut self, time: u32) -> Answer
-        ensures { λ r. ⌜ r ≡ answerOf (timeSet self time) ⌝ }
+        ensures { λ r. ⌜ r ≡ answerOf (guarded self 0 (clockSetEffect time)) ⌝ }
     {
         let s = self.scheduler;
         self.clock = time;
@@ -33,7 +35,7 @@ impl Kernel {
 
     // The clock goes up by one, and every timed wait has one tick less.
     pub(crate) fn tick(self, caller: u32) -> Answer
-        ensures { λ r. ⌜ r ≡ answerOf (tick self caller) ⌝ }
+        ensures { λ r. ⌜ r ≡ answerOf (guarded self (tickRefusal caller) (tickEffect self)) ⌝ }
     {
         let reason = refusal::tick(caller);
         if reason != 0 {

@@ -1,9 +1,14 @@
 // Event flags services.
 ghost use mathlib.Core.Path.{_≡_};
 ghost use lib.ListN.{getD, set};
-ghost use Rattle.objects.specs.Groups.{noGroup};
+ghost use Rattle.objects.specs.Groups.{noGroup, groupWith};
+ghost use Rattle.calls.specs.Refusals.{groupCreateRefusal, groupDeleteRefusal, setRefusal, getRefusal};
+ghost use Rattle.kernel.specs.Tables.{groupAt};
 ghost use Rattle.kernel.specs.Answers.{answerOf};
-ghost use Rattle.kernel.specs.Groups.{groupPlace, groupCreate, groupDelete, setOr, groupSet, groupGet};
+ghost use Rattle.kernel.specs.Kinds.{Kind, placeOf};
+ghost use Rattle.kernel.specs.Edits.{carriedOut, guarded};
+ghost use Rattle.kernel.specs.Effects.{storeEffect, removeEffect};
+ghost use Rattle.kernel.specs.Groups.{setOrEffect, setEffect, flagsGetEffect};
 use super::Answer;
 use super::Kernel;
 use super::two_words;
@@ -45,7 +50,7 @@ fn groups_with(mut all: [Group; 8], n: GroupId, g: Group) -> [Group; 8]
 
 // Where those who wait for flags of a group stand.
 fn place(n: GroupId) -> Place
-    ensures { λ r. ⌜ r ≡ groupPlace (n .0) ⌝ }
+    ensures { λ r. ⌜ r ≡ placeOf Kind.group (n .0) ⌝ }
 {
     Place {
         state: ON_FLAGS,
@@ -55,7 +60,7 @@ fn place(n: GroupId) -> Place
 
 impl Kernel {
     pub(crate) fn event_flags_create(mut self, caller: u32, n: GroupId) -> Answer
-        ensures { λ r. ⌜ r ≡ answerOf (groupCreate self caller (n .0)) ⌝ }
+        ensures { λ r. ⌜ r ≡ answerOf (guarded self (groupCreateRefusal (n .0) (groupAt self (n .0)) caller) (storeEffect Kind.group (n .0) (groupWith 0))) ⌝ }
     {
         let all = self.groups;
         let reason = refusal::group_create(n, group_in(all, n), caller);
@@ -69,7 +74,7 @@ impl Kernel {
     }
 
     pub(crate) fn event_flags_delete(mut self, caller: u32, n: GroupId) -> Answer
-        ensures { λ r. ⌜ r ≡ answerOf (groupDelete self caller (n .0)) ⌝ }
+        ensures { λ r. ⌜ r ≡ answerOf (guarded self (groupDeleteRefusal (groupAt self (n .0)) caller) (removeEffect self Kind.group (n .0))) ⌝ }
     {
         let all = self.groups;
         let reason = refusal::group_delete(group_in(all, n), caller);
@@ -86,7 +91,7 @@ impl Kernel {
     // Whoever waits for flags that are now set is woken with them; clears are taken off afterwards. The waits end here, since
     // `ended_each` would copy the tables twice more, and flags are set often.
     fn set_or(mut self, n: GroupId, flags: u32) -> Answer
-        ensures { λ r. ⌜ r ≡ answerOf (setOr self (n .0) flags) ⌝ }
+        ensures { λ r. ⌜ r ≡ answerOf (carriedOut self (setOrEffect self (n .0) flags)) ⌝ }
     {
         let mut requests: [u32; 32] = [0; 32];
         let mut options: [u8; 32] = [0; 32];
@@ -120,7 +125,7 @@ impl Kernel {
     }
 
     pub(crate) fn event_flags_set(mut self, n: GroupId, flags: u32, option: u32) -> Answer
-        ensures { λ r. ⌜ r ≡ answerOf (groupSet self (n .0) flags option) ⌝ }
+        ensures { λ r. ⌜ r ≡ answerOf (guarded self (setRefusal (groupAt self (n .0)) option) (setEffect self (n .0) flags option)) ⌝ }
     {
         let all = self.groups;
         let g = group_in(all, n);
@@ -145,7 +150,7 @@ impl Kernel {
         option: u32,
         wait: u32,
     ) -> Answer
-        ensures { λ r. ⌜ r ≡ answerOf (groupGet self caller (n .0) request option wait) ⌝ }
+        ensures { λ r. ⌜ r ≡ answerOf (guarded self (getRefusal (groupAt self (n .0)) request option wait caller) (flagsGetEffect self (n .0) request option wait)) ⌝ }
     {
         let all = self.groups;
         let g = group_in(all, n);

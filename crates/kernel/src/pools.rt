@@ -1,9 +1,14 @@
 // Block pool services.
 ghost use mathlib.Core.Path.{_≡_};
 ghost use lib.ListN.{getD, set};
-ghost use Rattle.blocks.specs.Pools.{noPool};
+ghost use Rattle.blocks.specs.Pools.{noPool, freshPool};
+ghost use Rattle.calls.specs.Refusals.{poolCreateRefusal, poolDeleteRefusal, allocateRefusal, releaseRefusal, poolRefusal};
+ghost use Rattle.kernel.specs.Tables.{poolAt};
 ghost use Rattle.kernel.specs.Answers.{answerOf};
-ghost use Rattle.kernel.specs.Pools.{poolPlace, poolCreate, poolDelete, blockAllocate, blockRelease, poolPrioritize};
+ghost use Rattle.kernel.specs.Kinds.{Kind, placeOf};
+ghost use Rattle.kernel.specs.Edits.{guarded};
+ghost use Rattle.kernel.specs.Effects.{storeEffect, removeEffect, rankEffect};
+ghost use Rattle.kernel.specs.Pools.{allocateEffect, releaseEffect};
 use super::Answer;
 use super::Kernel;
 use super::two_words;
@@ -39,7 +44,7 @@ fn pools_with(mut all: [Pool; 4], n: PoolId, p: Pool) -> [Pool; 4]
 
 // Where those who wait for a block of a pool stand.
 fn place(n: PoolId) -> Place
-    ensures { λ r. ⌜ r ≡ poolPlace (n .0) ⌝ }
+    ensures { λ r. ⌜ r ≡ placeOf Kind.pool (n .0) ⌝ }
 {
     Place {
         state: ON_BLOCK,
@@ -55,7 +60,7 @@ impl Kernel {
         block: u32,
         total: u32,
     ) -> Answer
-        ensures { λ r. ⌜ r ≡ answerOf (poolCreate self caller (n .0) block total) ⌝ }
+        ensures { λ r. ⌜ r ≡ answerOf (guarded self (poolCreateRefusal (n .0) (poolAt self (n .0)) block total caller) (storeEffect Kind.pool (n .0) (freshPool block total))) ⌝ }
     {
         let all = self.pools;
         let reason = refusal::pool_create(n, pool_in(all, n), block, total, caller);
@@ -69,7 +74,7 @@ impl Kernel {
     }
 
     pub(crate) fn block_pool_delete(mut self, caller: u32, n: PoolId) -> Answer
-        ensures { λ r. ⌜ r ≡ answerOf (poolDelete self caller (n .0)) ⌝ }
+        ensures { λ r. ⌜ r ≡ answerOf (guarded self (poolDeleteRefusal (poolAt self (n .0)) caller) (removeEffect self Kind.pool (n .0))) ⌝ }
     {
         let all = self.pools;
         let reason = refusal::pool_delete(pool_in(all, n), caller);
@@ -84,7 +89,7 @@ impl Kernel {
     }
 
     pub(crate) fn block_allocate(mut self, caller: u32, n: PoolId, wait: u32) -> Answer
-        ensures { λ r. ⌜ r ≡ answerOf (blockAllocate self caller (n .0) wait) ⌝ }
+        ensures { λ r. ⌜ r ≡ answerOf (guarded self (allocateRefusal (poolAt self (n .0)) wait caller) (allocateEffect self (n .0) wait)) ⌝ }
     {
         let all = self.pools;
         let p = pool_in(all, n);
@@ -114,7 +119,7 @@ impl Kernel {
 
     // The first in line gets the block, else it is free again.
     pub(crate) fn block_release(mut self, n: PoolId, block: u8) -> Answer
-        ensures { λ r. ⌜ r ≡ answerOf (blockRelease self (n .0) block) ⌝ }
+        ensures { λ r. ⌜ r ≡ answerOf (guarded self (releaseRefusal (poolAt self (n .0)) block) (releaseEffect self (n .0) block)) ⌝ }
     {
         let all = self.pools;
         let p = pool_in(all, n);
@@ -139,7 +144,7 @@ impl Kernel {
     }
 
     pub(crate) fn block_pool_prioritize(self, n: PoolId) -> Answer
-        ensures { λ r. ⌜ r ≡ answerOf (poolPrioritize self (n .0)) ⌝ }
+        ensures { λ r. ⌜ r ≡ answerOf (guarded self (poolRefusal (poolAt self (n .0))) (rankEffect Kind.pool (n .0))) ⌝ }
     {
         let all = self.pools;
         let reason = refusal::pool(pool_in(all, n));

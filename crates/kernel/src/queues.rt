@@ -1,9 +1,15 @@
 // Queue services.
 ghost use mathlib.Core.Path.{_≡_};
-ghost use lib.ListN.{getD};
-ghost use Rattle.objects.specs.Queues.{noQueue};
+ghost use lib.ListN.{getD, length};
+ghost use Rattle.objects.specs.Queues.{noQueue, emptyQueue};
+ghost use Rattle.calls.specs.Messages.{messageIn};
+ghost use Rattle.calls.specs.Refusals.{queueCreateRefusal, queueDeleteRefusal, sendRefusal, receiveRefusal, queueRefusal};
+ghost use Rattle.kernel.specs.Tables.{queueAt};
 ghost use Rattle.kernel.specs.Answers.{answerOf};
-ghost use Rattle.kernel.specs.Queues.{queuePlace, queueCreate, endQueue, queueDelete, queueSend, queueReceive, queueFlush, queuePrioritize};
+ghost use Rattle.kernel.specs.Kinds.{Kind, placeOf};
+ghost use Rattle.kernel.specs.Edits.{Cause, Holds, carriedOut, guarded};
+ghost use Rattle.kernel.specs.Effects.{storeEffect, closeEffect, removeEffect, rankEffect};
+ghost use Rattle.kernel.specs.Queues.{sendEffect, receiveEffect, flushEffect};
 use super::Answer;
 use super::Kernel;
 use super::waits::with_runner_waiting;
@@ -28,7 +34,7 @@ fn queue_in(all: [Queue; 8], n: QueueId) -> Queue
 
 // Where the waiters of a queue stand.
 fn place(n: QueueId) -> Place
-    ensures { λ r. ⌜ r ≡ queuePlace (n .0) ⌝ }
+    ensures { λ r. ⌜ r ≡ placeOf Kind.queue (n .0) ⌝ }
 {
     Place {
         state: ON_QUEUE,
@@ -39,7 +45,7 @@ fn place(n: QueueId) -> Place
 impl Kernel {
     // The waits of all at queue `n` end with a status, and the queue has another record.
     fn queue_ended(mut self, n: QueueId, q: Queue, status: u32) -> Answer
-        ensures { λ r. ⌜ r ≡ answerOf (endQueue self (n .0) q status) ⌝ }
+        ensures { λ r. ⌜ ((c : Cause) → Holds c status → r ≡ answerOf (carriedOut self (closeEffect c Kind.queue (n .0) q self))) ⌝ }
     {
         let s = self.scheduler;
         let line = s.line_at(place(n));
@@ -57,7 +63,7 @@ impl Kernel {
         words: u32,
         storage: u32,
     ) -> Answer
-        ensures { λ r. ⌜ r ≡ answerOf (queueCreate self caller (n .0) words storage) ⌝ }
+        ensures { λ r. ⌜ r ≡ answerOf (guarded self (queueCreateRefusal (n .0) (queueAt self (n .0)) words storage caller) (storeEffect Kind.queue (n .0) (emptyQueue words storage))) ⌝ }
     {
         let all = self.queues;
         let reason = refusal::queue_create(n, queue_in(all, n), words, storage, caller);
@@ -74,7 +80,7 @@ impl Kernel {
     }
 
     pub(crate) fn queue_delete(self, caller: u32, n: QueueId) -> Answer
-        ensures { λ r. ⌜ r ≡ answerOf (queueDelete self caller (n .0)) ⌝ }
+        ensures { λ r. ⌜ r ≡ answerOf (guarded self (queueDeleteRefusal (queueAt self (n .0)) caller) (removeEffect self Kind.queue (n .0))) ⌝ }
     {
         let all = self.queues;
         let reason = refusal::queue_delete(queue_in(all, n), caller);
@@ -95,7 +101,7 @@ impl Kernel {
         front: bool,
         messages: &[u32],
     ) -> Answer
-        ensures { λ r. ⌜ r ≡ answerOf (queueSend self caller (n .0) wait index front (now (messages .entry))) ⌝ }
+        ensures { λ r. ⌜ r ≡ answerOf (guarded self (sendRefusal (queueAt self (n .0)) index (length (now (messages .entry))) wait caller) (sendEffect self (n .0) wait front (messageIn (now (messages .entry)) index (queueAt self (n .0) .words)))) ⌝ }
     {
         let all = self.queues;
         let q = queue_in(all, n);
@@ -137,7 +143,7 @@ impl Kernel {
 
     // The receiver waits, or gets a message; the first sender in line may then pass or store its own.
     pub(crate) fn queue_receive(mut self, caller: u32, n: QueueId, wait: u32) -> Answer
-        ensures { λ r. ⌜ r ≡ answerOf (queueReceive self caller (n .0) wait) ⌝ }
+        ensures { λ r. ⌜ r ≡ answerOf (guarded self (receiveRefusal (queueAt self (n .0)) wait caller) (receiveEffect self (n .0) wait)) ⌝ }
     {
         let all = self.queues;
         let q = queue_in(all, n);
@@ -184,7 +190,7 @@ impl Kernel {
     }
 
     pub(crate) fn queue_flush(self, n: QueueId) -> Answer
-        ensures { λ r. ⌜ r ≡ answerOf (queueFlush self (n .0)) ⌝ }
+        ensures { λ r. ⌜ r ≡ answerOf (guarded self (queueRefusal (queueAt self (n .0))) (flushEffect self (n .0))) ⌝ }
     {
         let all = self.queues;
         let q = queue_in(all, n);
@@ -200,7 +206,7 @@ impl Kernel {
     }
 
     pub(crate) fn queue_prioritize(self, n: QueueId) -> Answer
-        ensures { λ r. ⌜ r ≡ answerOf (queuePrioritize self (n .0)) ⌝ }
+        ensures { λ r. ⌜ r ≡ answerOf (guarded self (queueRefusal (queueAt self (n .0))) (rankEffect Kind.queue (n .0))) ⌝ }
     {
         let all = self.queues;
         let reason = refusal::queue(queue_in(all, n));

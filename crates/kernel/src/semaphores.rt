@@ -1,8 +1,13 @@
 // Semaphore services.
 ghost use mathlib.Core.Path.{_≡_};
 ghost use lib.ListN.{set};
+ghost use Rattle.calls.specs.Refusals.{semaphoreCreateRefusal, semaphoreGetRefusal, semaphoreRefusal, ceilingRefusal, semaphoreDeleteRefusal};
+ghost use Rattle.kernel.specs.Tables.{semaphoreAt};
 ghost use Rattle.kernel.specs.Answers.{answerOf};
-ghost use Rattle.kernel.specs.Semaphores.{semaphorePlace, counting, semaphoreCreate, semaphoreDelete, semaphoreGet, semaphorePut, semaphoreCeilingPut, semaphorePrioritize};
+ghost use Rattle.kernel.specs.Kinds.{Kind, placeOf};
+ghost use Rattle.kernel.specs.Edits.{guarded};
+ghost use Rattle.kernel.specs.Effects.{storeEffect, removeEffect, rankEffect, counting};
+ghost use Rattle.kernel.specs.Semaphores.{semaphoreGetEffect, putEffect};
 use super::Answer;
 use super::Kernel;
 use super::semaphore_in;
@@ -40,7 +45,7 @@ fn counting(count: u32) -> Semaphore
 
 // Where the waiters of a semaphore stand.
 fn place(n: SemaphoreId) -> Place
-    ensures { λ r. ⌜ r ≡ semaphorePlace (n .0) ⌝ }
+    ensures { λ r. ⌜ r ≡ placeOf Kind.semaphore (n .0) ⌝ }
 {
     Place {
         state: ON_SEMAPHORE,
@@ -50,7 +55,7 @@ fn place(n: SemaphoreId) -> Place
 
 impl Kernel {
     pub(crate) fn semaphore_create(mut self, caller: u32, n: SemaphoreId, count: u32) -> Answer
-        ensures { λ r. ⌜ r ≡ answerOf (semaphoreCreate self caller (n .0) count) ⌝ }
+        ensures { λ r. ⌜ r ≡ answerOf (guarded self (semaphoreCreateRefusal (n .0) (semaphoreAt self (n .0)) caller) (storeEffect Kind.semaphore (n .0) (counting count))) ⌝ }
     {
         let all = self.semaphores;
         let reason = refusal::semaphore_create(n, semaphore_in(all, n), caller);
@@ -64,7 +69,7 @@ impl Kernel {
     }
 
     pub(crate) fn semaphore_get(mut self, caller: u32, n: SemaphoreId, wait: u32) -> Answer
-        ensures { λ r. ⌜ r ≡ answerOf (semaphoreGet self caller (n .0) wait) ⌝ }
+        ensures { λ r. ⌜ r ≡ answerOf (guarded self (semaphoreGetRefusal (semaphoreAt self (n .0)) wait caller) (semaphoreGetEffect self (n .0) wait)) ⌝ }
     {
         let all = self.semaphores;
         let x = semaphore_in(all, n);
@@ -92,7 +97,7 @@ impl Kernel {
 
     // The first waiter is served, else the count goes up by one.
     pub(crate) fn semaphore_put(mut self, n: SemaphoreId) -> Answer
-        ensures { λ r. ⌜ r ≡ answerOf (semaphorePut self (n .0)) ⌝ }
+        ensures { λ r. ⌜ r ≡ answerOf (guarded self (semaphoreRefusal (semaphoreAt self (n .0))) (putEffect self (n .0))) ⌝ }
     {
         let all = self.semaphores;
         let x = semaphore_in(all, n);
@@ -118,7 +123,7 @@ impl Kernel {
 
     // A put that the ceiling does not forbid.
     pub(crate) fn semaphore_ceiling_put(self, n: SemaphoreId, ceiling: u32) -> Answer
-        ensures { λ r. ⌜ r ≡ answerOf (semaphoreCeilingPut self (n .0) ceiling) ⌝ }
+        ensures { λ r. ⌜ r ≡ answerOf (guarded self (ceilingRefusal (semaphoreAt self (n .0)) ceiling) (putEffect self (n .0))) ⌝ }
     {
         let all = self.semaphores;
         let reason = refusal::ceiling_put(semaphore_in(all, n), ceiling);
@@ -129,7 +134,7 @@ impl Kernel {
     }
 
     pub(crate) fn semaphore_prioritize(self, n: SemaphoreId) -> Answer
-        ensures { λ r. ⌜ r ≡ answerOf (semaphorePrioritize self (n .0)) ⌝ }
+        ensures { λ r. ⌜ r ≡ answerOf (guarded self (semaphoreRefusal (semaphoreAt self (n .0))) (rankEffect Kind.semaphore (n .0))) ⌝ }
     {
         let all = self.semaphores;
         let reason = refusal::semaphore(semaphore_in(all, n));
@@ -141,7 +146,7 @@ impl Kernel {
     }
 
     pub(crate) fn semaphore_delete(mut self, caller: u32, n: SemaphoreId) -> Answer
-        ensures { λ r. ⌜ r ≡ answerOf (semaphoreDelete self caller (n .0)) ⌝ }
+        ensures { λ r. ⌜ r ≡ answerOf (guarded self (semaphoreDeleteRefusal (semaphoreAt self (n .0)) caller) (removeEffect self Kind.semaphore (n .0))) ⌝ }
     {
         let all = self.semaphores;
         let reason = refusal::semaphore_delete(semaphore_in(all, n), caller);

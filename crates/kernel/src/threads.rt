@@ -2,9 +2,12 @@
 ghost use mathlib.Core.Path.{_≡_};
 ghost use lib.Dec.{eqb};
 ghost use Rattle.lines.specs.Logic.{if_then_else_};
-ghost use Rattle.scheduler.specs.Threads.{ready, suspended};
+ghost use Rattle.scheduler.specs.Threads.{ready, completed, suspended};
+ghost use Rattle.calls.specs.Refusals.{createRefusal, deleteRefusal, resumeRefusal, suspendRefusal, terminateRefusal, resetRefusal, threadOnlyRefusal, abortRefusal, priorityRefusal, preemptionRefusal, readRefusal};
+ghost use Rattle.kernel.specs.Tables.{threadOf, runnerOf};
 ghost use Rattle.kernel.specs.Answers.{answerOf};
-ghost use Rattle.kernel.specs.Threads.{threadCreate, threadDelete, threadResume, threadSuspend, threadTerminate, threadReset, threadFinish, threadRelinquish, threadSleep, threadWaitAbort, threadPriorityChange, threadPreemptionChange, threadStateRead, threadWordsRead};
+ghost use Rattle.kernel.specs.Edits.{guarded};
+ghost use Rattle.kernel.specs.Threads.{createEffect, deleteEffect, resumeEffect, suspendEffect, terminateEffect, restEffect, relinquishEffect, sleepEffect, abortEffect, priorityEffect, preemptionEffect, stateEffect, wordsEffect};
 use super::Answer;
 use super::Kernel;
 use super::held_in;
@@ -39,7 +42,7 @@ impl Kernel {
         threshold: u32,
         start: u32,
     ) -> Answer
-        ensures { λ r. ⌜ r ≡ answerOf (threadCreate self caller (t .0) priority threshold start) ⌝ }
+        ensures { λ r. ⌜ r ≡ answerOf (guarded self (createRefusal (t .0) (threadOf self (t .0)) priority threshold start caller) (createEffect (t .0) priority threshold start)) ⌝ }
     {
         let s = self.scheduler;
         let reason = refusal::create(t, s.thread_at(t), priority, threshold, start, caller);
@@ -51,7 +54,7 @@ impl Kernel {
     }
 
     pub(crate) fn thread_delete(self, caller: u32, t: ThreadId) -> Answer
-        ensures { λ r. ⌜ r ≡ answerOf (threadDelete self caller (t .0)) ⌝ }
+        ensures { λ r. ⌜ r ≡ answerOf (guarded self (deleteRefusal (threadOf self (t .0)) caller) (deleteEffect (t .0))) ⌝ }
     {
         let s = self.scheduler;
         let reason = refusal::delete(s.thread_at(t), caller);
@@ -68,7 +71,7 @@ impl Kernel {
     }
 
     pub(crate) fn thread_resume(self, t: ThreadId) -> Answer
-        ensures { λ r. ⌜ r ≡ answerOf (threadResume self (t .0)) ⌝ }
+        ensures { λ r. ⌜ r ≡ answerOf (guarded self (resumeRefusal (threadOf self (t .0))) (resumeEffect self (t .0))) ⌝ }
     {
         let s = self.scheduler;
         let th = s.thread_at(t);
@@ -88,7 +91,7 @@ impl Kernel {
     }
 
     pub(crate) fn thread_suspend(self, t: ThreadId) -> Answer
-        ensures { λ r. ⌜ r ≡ answerOf (threadSuspend self (t .0)) ⌝ }
+        ensures { λ r. ⌜ r ≡ answerOf (guarded self (suspendRefusal (threadOf self (t .0))) (suspendEffect self (t .0))) ⌝ }
     {
         let s = self.scheduler;
         let th = s.thread_at(t);
@@ -116,7 +119,7 @@ impl Kernel {
     }
 
     pub(crate) fn thread_terminate(self, caller: u32, t: ThreadId) -> Answer
-        ensures { λ r. ⌜ r ≡ answerOf (threadTerminate self caller (t .0)) ⌝ }
+        ensures { λ r. ⌜ r ≡ answerOf (guarded self (terminateRefusal (threadOf self (t .0)) caller) (terminateEffect self (t .0))) ⌝ }
     {
         let s = self.scheduler;
         let th = s.thread_at(t);
@@ -132,7 +135,7 @@ impl Kernel {
     }
 
     pub(crate) fn thread_reset(self, caller: u32, t: ThreadId) -> Answer
-        ensures { λ r. ⌜ r ≡ answerOf (threadReset self caller (t .0)) ⌝ }
+        ensures { λ r. ⌜ r ≡ answerOf (guarded self (resetRefusal (threadOf self (t .0)) caller) (restEffect (t .0) suspended)) ⌝ }
     {
         let s = self.scheduler;
         let th = s.thread_at(t);
@@ -145,7 +148,7 @@ impl Kernel {
     }
 
     pub(crate) fn thread_finish(self, caller: u32) -> Answer
-        ensures { λ r. ⌜ r ≡ answerOf (threadFinish self caller) ⌝ }
+        ensures { λ r. ⌜ r ≡ answerOf (guarded self (threadOnlyRefusal caller) (restEffect (runnerOf self) completed)) ⌝ }
     {
         let reason = refusal::thread_only(caller);
         if reason != 0 {
@@ -159,7 +162,7 @@ impl Kernel {
     }
 
     pub(crate) fn thread_relinquish(mut self, caller: u32) -> Answer
-        ensures { λ r. ⌜ r ≡ answerOf (threadRelinquish self caller) ⌝ }
+        ensures { λ r. ⌜ r ≡ answerOf (guarded self (threadOnlyRefusal caller) (relinquishEffect self)) ⌝ }
     {
         let reason = refusal::thread_only(caller);
         if reason != 0 {
@@ -179,7 +182,7 @@ impl Kernel {
     }
 
     pub(crate) fn thread_sleep(mut self, caller: u32, ticks: u32) -> Answer
-        ensures { λ r. ⌜ r ≡ answerOf (threadSleep self caller ticks) ⌝ }
+        ensures { λ r. ⌜ r ≡ answerOf (guarded self (threadOnlyRefusal caller) (sleepEffect self ticks)) ⌝ }
     {
         let reason = refusal::thread_only(caller);
         if reason != 0 {
@@ -201,7 +204,7 @@ impl Kernel {
     }
 
     pub(crate) fn thread_wait_abort(self, t: ThreadId) -> Answer
-        ensures { λ r. ⌜ r ≡ answerOf (threadWaitAbort self (t .0)) ⌝ }
+        ensures { λ r. ⌜ r ≡ answerOf (guarded self (abortRefusal (threadOf self (t .0))) (abortEffect (t .0))) ⌝ }
     {
         let s = self.scheduler;
         let reason = refusal::abort(s.thread_at(t));
@@ -212,7 +215,7 @@ impl Kernel {
     }
 
     pub(crate) fn thread_priority_change(self, caller: u32, t: ThreadId, priority: u32) -> Answer
-        ensures { λ r. ⌜ r ≡ answerOf (threadPriorityChange self caller (t .0) priority) ⌝ }
+        ensures { λ r. ⌜ r ≡ answerOf (guarded self (priorityRefusal (threadOf self (t .0)) priority caller) (priorityEffect self (t .0) priority)) ⌝ }
     {
         let s = self.scheduler;
         let th = s.thread_at(t);
@@ -225,7 +228,7 @@ impl Kernel {
     }
 
     pub(crate) fn thread_preemption_change(self, caller: u32, t: ThreadId, threshold: u32) -> Answer
-        ensures { λ r. ⌜ r ≡ answerOf (threadPreemptionChange self caller (t .0) threshold) ⌝ }
+        ensures { λ r. ⌜ r ≡ answerOf (guarded self (preemptionRefusal (threadOf self (t .0)) threshold caller) (preemptionEffect self (t .0) threshold)) ⌝ }
     {
         let s = self.scheduler;
         let th = s.thread_at(t);
@@ -239,7 +242,7 @@ impl Kernel {
 
     // A thread's state and held status.
     pub(crate) fn thread_state_read(self, t: ThreadId) -> Answer
-        ensures { λ r. ⌜ r ≡ answerOf (threadStateRead self (t .0)) ⌝ }
+        ensures { λ r. ⌜ r ≡ answerOf (guarded self (readRefusal (threadOf self (t .0))) (stateEffect self (t .0))) ⌝ }
     {
         let s = self.scheduler;
         let th = s.thread_at(t);
@@ -255,7 +258,7 @@ impl Kernel {
 
     // A thread's held words.
     pub(crate) fn thread_words_read(self, t: ThreadId) -> Answer
-        ensures { λ r. ⌜ r ≡ answerOf (threadWordsRead self (t .0)) ⌝ }
+        ensures { λ r. ⌜ r ≡ answerOf (guarded self (readRefusal (threadOf self (t .0))) (wordsEffect self (t .0))) ⌝ }
     {
         let s = self.scheduler;
         let reason = refusal::read(s.thread_at(t));

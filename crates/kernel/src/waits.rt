@@ -1,12 +1,11 @@
 // Waits: their start, and the end of several at once.
 ghost use mathlib.Core.Path.{_≡_};
+ghost use Rattle.scheduler.specs.Orders.{threadAt, joined};
 ghost use Rattle.lines.specs.Lines.{members};
 ghost use Rattle.scheduler.specs.Threads.{inState};
-ghost use Rattle.scheduler.specs.Orders.{threadAt, joined};
-ghost use Rattle.calls.specs.Statuses.{success};
-ghost use Rattle.calls.specs.Held.{noWords};
-ghost use Rattle.kernel.specs.Answers.{answerOf, carried};
-ghost use Rattle.kernel.specs.Waits.{endEach};
+ghost use Rattle.kernel.specs.Answers.{answerOf};
+ghost use Rattle.kernel.specs.Edits.{Cause, Holds, carriedOut};
+ghost use Rattle.kernel.specs.Effects.{does, endsEach};
 use super::Answer;
 use super::Kernel;
 use calls::held::Held;
@@ -33,7 +32,7 @@ pub(crate) fn with_runner_waiting(
 impl Kernel {
     // The waits of all in the line end with a status and words, in order, and the call is done.
     pub(crate) fn ended_each(mut self, line: Line, status: u32, words: [u32; 16]) -> Answer
-        ensures { λ r. ⌜ r ≡ answerOf (carried (endEach self status words (members line)) success noWords (members line)) ⌝ }
+        ensures { λ r. ⌜ ((c : Cause) → Holds c status → r ≡ answerOf (carriedOut self (does (endsEach c words (members line))))) ⌝ }
     {
         let ids = line.ids;
         let n = line.size() as usize;

@@ -9,14 +9,13 @@ use Rattle.objects.specs.declared.semaphore.Semaphore.{Semaphore}
 use Rattle.blocks.specs.declared.pool.Pool.{Pool}
 use Rattle.blocks.specs.Pools.{blocksOf, poolFitb, listing, freshPool, withoutNext, withFree}
 use Rattle.blocks.proofs.Laws.Pools as Records
+use Rattle.kernel.proofs.Laws.Objects
 use Rattle.kernel.specs.declared.Kernel.{Kernel}
 use Rattle.kernel.specs.Tables.{semaphoreAt, poolAt}
-use Rattle.kernel.specs.Semaphores.{counting}
-use Rattle.kernel.specs.Waits.{oneMore}
-use Rattle.kernel.specs.Sound.{Sound}
 use Rattle.kernel.specs.Kinds.Kind.{semaphore, pool}
+use Rattle.kernel.specs.Sound.{Sound}
 use Rattle.kernel.specs.Roles.{oneOf}
-use Rattle.kernel.proofs.Laws.Objects
+use Rattle.kernel.specs.Effects.{oneMore, counting}
 use Rattle.claims.specs.Lists.{Request, answer, next, after}
 use Rattle.claims.specs.Rolls.{doneb, gave}
 use Rattle.claims.specs.Accounts.{servedLater, served, Undeleted, SemaphoreAccount, PoolAccount, Accounts}
@@ -99,7 +98,7 @@ pool-from n (m ∷ ms) k S made slots u =
 -- ---- since creation
 module _ (k : Kernel) (S : Sound k) (m : Request) where
   semaphore-since : m .number ≡ 16 → m .b < 4294967296 → doneb (answer k m) ≡ true → (ms : List Request) → Undeleted semaphore (m .a) (next k m) ms → SemaphoreAccount (m .a) (m .b) (next k m) ms
-  unfolding counting oneOf
+  unfolding counting
   semaphore-since n low done ms u =
       let e = new-object k S m (request-step k S m) semaphore (subst (λ (i : ℕ). oneOf i (16 ∷ []) ≡ true) (sym n) refl) done in
       let c : semaphoreAt (next k m) (m .a) .count ≡ m .b = ap (λ (y : Semaphore). y .count) e in
@@ -108,7 +107,6 @@ module _ (k : Kernel) (S : Sound k) (m : Request) where
 
   module _ (n : m .number ≡ 33) (done : doneb (answer k m) ≡ true) where
     fresh : poolAt (next k m) (m .a) ≡ freshPool (m .b) (m .c)
-    unfolding oneOf
     fresh = new-object k S m (request-step k S m) pool (subst (λ (i : ℕ). oneOf i (33 ∷ []) ≡ true) (sym n) refl) done
 
     pool-since : (ms : List Request) → Undeleted pool (m .a) (next k m) ms → PoolAccount (m .a) (blocksOf (poolAt (next k m) (m .a))) (next k m) ms

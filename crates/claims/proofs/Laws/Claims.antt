@@ -10,9 +10,9 @@ use borrow.Author.Tests.{lt-ltb}
 use Rattle.lines.specs.Logic.{oneIf}
 use Rattle.lines.specs.Lists.{count}
 use Rattle.kernel.specs.declared.Kernel.{Kernel}
-use Rattle.kernel.specs.Sound.{Sound}
 use Rattle.kernel.specs.Kinds.{Kind}
-use Rattle.kernel.specs.Effects.{rolledb}
+use Rattle.kernel.specs.Sound.{Sound}
+use Rattle.kernel.specs.Uses.{rolledb}
 use Rattle.claims.specs.Lists.{Request, answer, next, after}
 use Rattle.claims.specs.Rolls.{Entry, names, rollOf, givesb, doneb, rolled, rollAfter, lastsb, Waits, startRoll, NoPrioritiseOrDelete, KeptAll, gave, NoneServed, Undisturbed, Claim}
 use Rattle.claims.proofs.Laws.Steps.{request-step}

@@ -11,23 +11,24 @@ use Rattle.lines.proofs.Laws.Logic.{by-test, never, and-left, and-right, and-in
 use Rattle.scheduler.specs.declared.thread.Place.{Place}
 use Rattle.scheduler.specs.Orders.{firstAt}
 use Rattle.scheduler.proofs.Laws.Fairness.{first-placed}
+use Rattle.kernel.proofs.Laws.Edits
+use Rattle.kernel.proofs.Laws.Objects
+use Rattle.kernel.proofs.Laws.Lines
+use Rattle.kernel.proofs.Laws.Does
 use Rattle.kernel.specs.declared.Kernel.{Kernel}
 use Rattle.kernel.specs.declared.Answer.{Answer}
-use Rattle.kernel.specs.Answers.{Outcome, refused, answerOf}
-use Rattle.kernel.specs.Sound.{Sound}
+use Rattle.kernel.specs.Answers.{Outcome, answerOf, refused}
 use Rattle.kernel.specs.Kinds.{Kind, Object, sizeOf, stateOn, placeOf, objectAt, createdb}
 use Rattle.kernel.specs.Kinds.Kind.{semaphore, queue, group, pool}
-use Rattle.kernel.specs.Sound.{Fit}
-use Rattle.kernel.specs.Edits.{Move, Edit, Success, Effect, statusOf, startsb, sameb, edited, applied, carriedOut}
+use Rattle.kernel.specs.Sound.{Fit, Sound}
+use Rattle.kernel.specs.Edits.{Move, Edit, edited, applied, counted, startsb, sameb, Success, statusOf, Effect, carriedOut}
 use Rattle.kernel.specs.Edits.Cause.{served, deleted, timedOut, aborted}
 use Rattle.kernel.specs.Edits.Move.{ends, starts, stops, turns}
 use Rattle.kernel.specs.Edits.Edit.{moves, alters, counts, ranks, stores, sets}
 use Rattle.kernel.specs.Edits.Success.{done, lifted, waits}
 use Rattle.kernel.specs.Roles.{rowOf, oneOf, mayMoveb, mayb, allb}
-use Rattle.kernel.specs.Effects.{waitedb, rolledb, countedb, newOf, amountOf, oneLess, oneGiven, mayGiveb, Role}
-use Rattle.kernel.proofs.Laws.Objects
-use Rattle.kernel.proofs.Laws.Lines
-use Rattle.kernel.proofs.Laws.Does
+use Rattle.kernel.specs.Effects.{waitedb, amountOf, oneLess}
+use Rattle.kernel.specs.Uses.{rolledb, countedb, newOf, oneGiven, mayGiveb, Creates, When, Role}
 use Rattle.claims.specs.Lists.{Request, answer, next}
 use Rattle.claims.specs.Rolls.{onb, givesb, takesb, doneb}
 use Rattle.claims.specs.Accounts.{deletesb}
@@ -80,11 +81,9 @@ record Own (d : Kind) (i : ℕ) : Type 0 where
   other : stateOn d ≡ 5 → ⊥
 
 only : (i j : ℕ) (l : List ℕ) → oneOf i (j ∷ []) ≡ true → oneOf j l ≡ false → oneOf i l ≡ false
-unfolding oneOf
 only i j l o f = by-test (eqb i j) (λ e. ap (λ (x : ℕ). oneOf x l) (eqb-true i j e) ∙ f) (λ e. never o (rw e refl))
 
 own : (d : Kind) → countedb d ≡ true → (i : ℕ) → Own d i
-unfolding oneOf
 own semaphore c i = record { takes = λ o. only i 18 (19 ∷ 20 ∷ []) o refl; empties = refl; rolled = refl; other = λ z. omega (arith, z) }
 own queue c i = never c refl
 own group c i = never c refl
@@ -122,7 +121,7 @@ record-edit d n k (sets c) y = Objects.same-object d k _ (Objects.table-clock k 
 record-all : (d : Kind) (n : ℕ) (k : Kernel) (es : List Edit) → allb (apartb (placeOf d n)) es ≡ true → objectAt d (applied k es) n ≡ objectAt d k n
 unfolding applied
 record-all d n k [] y = refl
-record-all d n k (e ∷ es) y = record-all d n (edited k e) es (Lines.all-rest _ e es y) ∙ record-edit d n k e (Lines.all-first _ e es y)
+record-all d n k (e ∷ es) y = record-all d n (edited k e) es (Edits.all-rest _ e es y) ∙ record-edit d n k e (Edits.all-first _ e es y)
 
 record-stored : (d : Kind) (n : ℕ) (k : Kernel) → Fit k → n < sizeOf d → (y : Object d) (es : List Edit) → es ≡ stores d n y ∷ [] → objectAt d (applied k es) n ≡ y
 unfolding applied edited
@@ -146,12 +145,12 @@ module _ (k : Kernel) (S : Sound k) (m : Request) (st : Does.Step k (m .number) 
   new-object d own =
       let named = Serving.own-kind d (m .number) (rowOf d .creates) (Serving.own-row d .5) own in
       by-step (λ s x. eqb s 0 ≡ true → objectAt d x (m .a) ≡ newOf d (m .b) (m .c)) (λ s z y. never y z)
-      (λ e P R y. let c = (rw (named .0) at (R .creates)) own in
-      let low = c .1 in
+      (λ e P R y. let c = Does.when (subst (λ (b : Kind). When (oneOf (m .number) (rowOf b .creates)) (Creates b k (target m) (m .b) (m .c) e)) (named .0) (R .0)) own in
+      let low = c .small in
       let limit = named .1 in
       let at : m .a ≡ target m = omega (arith, low, limit) in
       ap (objectAt d (carriedOut k e .kernel)) at ∙ Objects.same-object d (applied k (e .edits)) _ (Does.chosen-table k (m .number) (target m) e P d) (target m)
-      ∙ record-stored d (target m) k (S .fit) low _ (e .edits) (ap (λ (y : Effect). y .edits) (c .2)))
+      ∙ record-stored d (target m) k (S .fit) low _ (e .edits) (ap (λ (y : Effect). y .edits) (c .stored)))
 
 -- ---- entries
 -- so many are given by a call with a status, and so many taken at once
@@ -229,7 +228,7 @@ module _ (d : Kind) (counted : countedb d ≡ true) (n : ℕ) (k : Kernel) (S : 
       done-entry undeleted =
           by-test (takesb d n m) take-entry
           (λ t. by-test (givesb d n m) (give-entry t)
-          (λ g. by-test (onb n m (rowOf d .creates)) (λ c. never made (Serving.creates-at d n small m k e R c .0))
+          (λ g. by-test (onb n m (rowOf d .creates)) (λ c. never made (Serving.creates-at d n small m k e R c .free))
           (λ c. apart-entry 0 (Serving.all-from _ _ (may-apart d n small m c undeleted t g (rw (O .empties) (and-false (eqb (m .a) n)))) (e .edits) (P .may)) (λ y. (g, t)))))
 
     carried-entry : (deletesb d n m && eqb (statusOf (e .success)) 0) ≡ false → Entry d n k m (statusOf (e .success)) x

@@ -1,8 +1,8 @@
 -- A roll beside the tables: what it says after a call by which some leave the line and others join it at the end.
 use mathlib.Core.Path.{_≡_, refl, sym, ap, _∙_}
-use mathlib.Core.List.{List, [], _∷_, _++_, append-assoc, append-nil}
-use mathlib.Core.Bool.{Bool, true, _&&_, not}
-use Prim.Native.Nat.{ℕ, zero, suc, _<_, _≤_, _+_, _-_}
+use mathlib.Core.List.{List, [], _∷_, _++_, append-assoc}
+use mathlib.Core.Bool.{true, _&&_, not}
+use Prim.Native.Nat.{ℕ, _<_, _+_, _-_}
 use native.Mathlib.Omega.{arith}
 use lib.Dec.{eqb, ltb}
 use Rattle.lines.specs.Logic.{oneIf}
@@ -17,14 +17,13 @@ use Rattle.scheduler.specs.Sound.{Steady}
 use Rattle.scheduler.specs.Orders.{lineAt, firstAt}
 use Rattle.scheduler.proofs.Laws.Orders
 use Rattle.waiting.specs.Ticks.{forever, timedb, lastTickb}
+use Rattle.kernel.proofs.Laws.Waits.{tick-movers}
+use Rattle.kernel.proofs.Laws.Calls.Clock.{tick-count}
+use Rattle.kernel.proofs.Laws.Changes
 use Rattle.kernel.specs.declared.Kernel.{Kernel}
 use Rattle.kernel.specs.Tables.{threadOf, heldAt}
-use Rattle.kernel.specs.Waits.{oneMore}
-use Rattle.kernel.specs.Edits.{Edit, countedBy, counted, movers, leavesb}
-use Rattle.kernel.specs.Edits.Edit.{moves, alters, counts, ranks, stores, sets}
-use Rattle.kernel.specs.Effects.{tickOf, ticksBelow, tickEffect}
-use Rattle.kernel.proofs.Laws.Lines
-use Rattle.kernel.proofs.Laws.Changes
+use Rattle.kernel.specs.Edits.{gathered, mover, movers, countedBy, counted, leavesb}
+use Rattle.kernel.specs.Clock.{tickOf, tickEffect}
 use Rattle.claims.specs.Rolls.{Entry, names, rollOf, rest, each, unnamed, ticked}
 
 -- the line begins with the roll, and each member's ticks are those of its wait
@@ -130,42 +129,10 @@ pub passes-named : (p : Place) (k x : Kernel) (ts : List ℕ) (t : ℕ) (r : Lis
 passes-named p k x ts t r A R same = passes-untimed p k x ts [] A r R _ refl (ap (each (unnamed t)) (R .agrees) ∙ roll-unnamed k t (names r) ∙ ap (rollOf k) same)
 
 -- ---- a tick
--- a list read off the edits of a tick, in which each thread of which b holds stands once
-module _ (k : Kernel) (f : List Edit → List ℕ) (b : Thread → Bool) (none : f [] ≡ []) (clock : (c : ℕ) → f (sets c ∷ []) ≡ []) (more : (es fs : List Edit) → f (es ++ fs) ≡ f es ++ f fs) (alone : (th : Thread) (t : ℕ) → f (tickOf th t) ≡ onlyIf (b th) t) where
-  one-more : (n u : ℕ) → count u (f (ticksBelow (suc n) k)) ≡ count u (f (ticksBelow n k)) + count u (onlyIf (b (threadOf k n)) n)
-  unfolding ticksBelow
-  one-more n u = ap (count u) (more (ticksBelow n k) (tickOf (threadOf k n) n) ∙ ap (λ (l : List ℕ). f (ticksBelow n k) ++ l) (alone (threadOf k n) n)) ∙ Lists.count-append u (f (ticksBelow n k)) (onlyIf (b (threadOf k n)) n)
-
-  ticks-past : (n u : ℕ) → n ≤ u → count u (f (ticksBelow n k)) ≡ 0
-  unfolding ticksBelow
-  ticks-past zero u l = ap (count u) none ∙ Less.count-none u
-  ticks-past (suc n) u l = let c = ticks-past n u (omega (arith, l)) in let d = Lists.count-not-only n u (b (threadOf k n)) (λ q. omega (arith, l, q)) in omega (arith, one-more n u, c, d)
-
-  ticks-below : (n u : ℕ) → u < n → count u (f (ticksBelow n k)) ≡ oneIf (b (threadOf k u))
-  ticks-below zero u l = absurd (omega (arith, l))
-  ticks-below (suc n) u l =
-      by-eq u n
-      (λ q. let d = ap (λ (v : ℕ). count v (onlyIf (b (threadOf k n)) n)) q ∙ Lists.count-only n (b (threadOf k n)) in
-      let z = ap (λ (v : ℕ). oneIf (b (threadOf k v))) q in omega (arith, one-more n u, ticks-past n u (omega (arith, q)), d, z))
-      (λ q. let c = ticks-below n u (omega (arith, l, q)) in omega (arith, one-more n u, c, Lists.count-not-only n u (b (threadOf k n)) q))
-
-  tick-count : (u : ℕ) → u < 32 → count u (f (tickEffect k .edits)) ≡ oneIf (b (threadOf k u))
-  unfolding tickEffect
-  tick-count u l = ap (count u) (more (ticksBelow 32 k) (sets (oneMore (k .clock)) ∷ []) ∙ ap (λ (l' : List ℕ). f (ticksBelow 32 k) ++ l') (clock (oneMore (k .clock))) ∙ append-nil (f (ticksBelow 32 k))) ∙ ticks-below 32 u l
-
--- who leaves the line of a place by a tick, and who is counted
-left-by : (p : Place) (th : Thread) (t : ℕ) → movers (leavesb p) (tickOf th t) ≡ onlyIf (lastTickb th) t
-unfolding movers leavesb tickOf
-left-by p th t = by-test (lastTickb th) (λ e. rw e) (λ e. by-test (timedb th) (λ y. rw (e, y)) (λ y. rw (e, y)))
-
+-- who is counted by it
 counted-by : (th : Thread) (t : ℕ) → counted (tickOf th t) ≡ onlyIf (not (lastTickb th) && timedb th) t
-unfolding counted tickOf
+unfolding gathered tickOf
 counted-by th t = by-test (lastTickb th) (λ e. rw e) (λ e. by-test (timedb th) (λ y. rw (e, y)) (λ y. rw (e, y)))
-
-pub counted-append : (es fs : List Edit) → counted (es ++ fs) ≡ counted es ++ counted fs
-unfolding counted
-counted-append [] fs = refl
-counted-append (e ∷ es) fs = ap (λ (l : List ℕ). countedBy e ++ l) (counted-append es fs) ∙ sym (append-assoc (countedBy e) (counted es) (counted fs))
 
 module _ (p : Place) (k x : Kernel) where
   abbrev ts : List ℕ
@@ -179,14 +146,14 @@ module _ (p : Place) (k x : Kernel) where
   Ticks u = (u < 32) × (pausedb (threadOf k u) ≡ true) × (count u ts ≡ 0 → threadOf x u .ticks ≡ threadOf k u .ticks - count u cs)
 
   roll-ticked : (xs : List ℕ) → ((u : ℕ) → 0 < count u xs → Ticks u) → each ticked (rollOf k xs) ≡ rollOf x (less ts xs)
-  unfolding each ticked rollOf less filter movers leavesb counted lastTickb timedb oneIf
+  unfolding each ticked rollOf less filter gathered leavesb lastTickb timedb oneIf
   roll-ticked [] h = refl
   roll-ticked (u ∷ us) h =
       let (small, paused, left) = h u (omega (arith, Lists.count-here u us)) in
       let rest = roll-ticked us (λ v c. h v (in-tail u us v c)) in
       let n = threadOf k u .ticks in
-      let a = tick-count k (movers (leavesb p)) lastTickb refl (λ c. refl) (Lines.movers-append (leavesb p)) (left-by p) u small in
-      let c = tick-count k counted (λ th. not (lastTickb th) && timedb th) refl (λ i. refl) counted-append counted-by u small in
+      let a = tick-count k (mover (leavesb p)) lastTickb (λ i. refl) (λ th t. tick-movers k t th (leavesb p) refl) u small in
+      let c = tick-count k countedBy (λ th. not (lastTickb th) && timedb th) (λ i. refl) counted-by u small in
       by-test (eqb n forever)
       (λ f. let z : count u ts ≡ 0 = a ∙ rw (paused, f) in let y : count u cs ≡ 0 = c ∙ rw (paused, f) in
       let t : n ≡ threadOf x u .ticks = omega (arith, left z, y) in

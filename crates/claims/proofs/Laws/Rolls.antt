@@ -1,13 +1,13 @@
 -- Demand 3 for one call: while a thread's wait lasts, the roll goes over into the roll after the call.
 use mathlib.Core.Path.{_≡_, refl, sym, ap, _∙_, subst}
 use mathlib.Core.List.{List, [], _∷_, _++_}
-use mathlib.Core.Bool.{Bool, true, false, _&&_, _||_, not}
+use mathlib.Core.Bool.{Bool, true, false, _&&_, _||_}
 use Prim.Native.Nat.{ℕ, _<_}
 use native.Mathlib.Omega.{arith}
 use lib.Dec.{eqb}
 use lib.ListN.{getD, set}
 use lib.Seq.{getD-set-same}
-use borrow.Author.Tests.{eqb-true, ltb-true}
+use borrow.Author.Tests.{eqb-true, ltb-true, eq-eqb}
 use Rattle.lines.specs.Logic.{if_then_else_, implies}
 use Rattle.lines.specs.Lists.{count, without, Begins, less}
 use Rattle.lines.proofs.Laws.Logic.{by-test, by-eq, by-choice, never, and-left, and-right, and-in, or-rest, implies-out}
@@ -23,25 +23,28 @@ use Rattle.calls.specs.Held.{noHeld, holding}
 use Rattle.calls.specs.Refusals.{finishedb}
 use Rattle.calls.specs.Statuses as Statuses
 use Rattle.waiting.specs.Fit.{blankFrom, waitsOnb, sendsb, statusFitb, wordsFitb, senderFitb, requestFitb, unheldFitb, heldFitb}
+use Rattle.kernel.proofs.Laws.Edits
+use Rattle.kernel.proofs.Laws.Objects
+use Rattle.kernel.proofs.Laws.Fits
+use Rattle.waiting.proofs.Laws.Held
+use Rattle.kernel.proofs.Laws.Lines
+use Rattle.kernel.proofs.Laws.Does
+use Rattle.kernel.proofs.Laws.Does.{Shape, Proper, Step, refuses, carries}
 use Rattle.kernel.specs.declared.Kernel.{Kernel}
 use Rattle.kernel.specs.declared.Answer.{Answer}
-use Rattle.kernel.specs.Tables.{threadOf, heldAt, withHeld, withScheduler}
+use Rattle.kernel.specs.Tables.{threadOf, heldAt, withScheduler, withHeld}
 use Rattle.kernel.specs.Answers.{Outcome, answerOf, refused}
-use Rattle.kernel.specs.Sound.{Sound}
 use Rattle.kernel.specs.Kinds.{Kind, sizeOf, stateOn, placeOf}
-use Rattle.kernel.specs.Sound.{Fit}
-use Rattle.kernel.specs.Edits.{Move, Edit, Success, Effect, statusOf, statusBy, heldBy, startsb, leavesb, movers, counted, edited, applied, carriedOut}
+use Rattle.kernel.specs.Sound.{Fit, Sound}
+use Rattle.kernel.specs.Edits.{statusBy, Move, heldBy, Edit, edited, applied, gathered, movers, counted, startsb, leavesb, Success, statusOf, Effect, carriedOut}
 use Rattle.kernel.specs.Edits.Cause.{served}
 use Rattle.kernel.specs.Edits.Move.{ends, starts, stops, turns}
 use Rattle.kernel.specs.Edits.Edit.{moves}
 use Rattle.kernel.specs.Edits.Success.{done, lifted, waits}
 use Rattle.kernel.specs.Roles.{rowOf, oneOf, limitOf, mayMoveb, mayb, allb}
-use Rattle.kernel.specs.Effects.{does, terminateEffect, abortEffect, rolledb, Taker, Role, givenWords}
-use Rattle.kernel.proofs.Laws.Objects
-use Rattle.kernel.proofs.Laws.Fits
-use Rattle.waiting.proofs.Laws.Held
-use Rattle.kernel.proofs.Laws.Lines
-use Rattle.kernel.proofs.Laws.Does.{Shape, Proper, Step, refuses, carries}
+use Rattle.kernel.specs.Effects.{does}
+use Rattle.kernel.specs.Threads.{terminateEffect, abortEffect}
+use Rattle.kernel.specs.Uses.{Taker, rolledb, givenWords, Role}
 use Rattle.claims.specs.Lists.{Request, answer, next}
 use Rattle.claims.specs.Rolls.{Entry, names, rest, each, unnamed, ticked, onb, givesb, takesb, prioritisesOrDeletesb, doneb, strikeOut, rolled, rollOf, lastsb, Waits, startRoll, Kept, Served}
 use Rattle.claims.proofs.Laws.Steps.{stepped, target, answer-is, next-sound}
@@ -122,7 +125,7 @@ module _ (d : Kind) (o : rolledb d ≡ true) (n t : ℕ) (k : Kernel) (r : List 
       left-by fs q = left fs q (subst (λ (s : Success). Shape s es) z (P .shape)) (Serving.all-unranked d n low m kept-order es (P .may))
 
       first-passes : givesb d n m ≡ true → Members.Passes p k x r (rest r)
-      unfolding movers counted leavesb
+      unfolding gathered leavesb
       first-passes g =
           let f = firstAt (k .scheduler) p in
           Members.passes-first p k x (F .steady) r t (L .stands)
@@ -132,25 +135,25 @@ module _ (d : Kind) (o : rolledb d ≡ true) (n t : ℕ) (k : Kernel) (r : List 
       named-by ts A l s = Members.passes-named p k x ts (m .a) r A (L .rolls) (same-target l ∙ s)
 
       named-passes : (eqb (m .number) 5 || eqb (m .number) 10) ≡ true → Members.Passes p k x r (each (unnamed (m .a)) r)
-      unfolding movers counted leavesb limitOf terminateEffect abortEffect
+      unfolding gathered leavesb limitOf terminateEffect abortEffect
       named-passes g =
           let a = target m in
           let one = sym (Less.less-one a (names r)) in
           by-test (eqb (m .number) 5)
           (λ y. let i = eqb-true (m .number) 5 y in
-          let q = ap (λ (f : Effect). f .edits) (R .terminates i) in
+          let q = ap (λ (f : Effect). f .edits) (Does.when (R .4) y) in
           by-test (finishedb (threadOf k a))
           (λ f. named-by [] (left-by [] (q ∙ rw f)) (ap limitOf i) (not-member a (finished-not a f) ∙ sym (Less.less-none (names r))))
           (λ f. named-by (a ∷ []) (left-by (moves a stops ∷ []) (q ∙ rw f)) (ap limitOf i) one))
           (λ y. let i = eqb-true (m .number) 10 (or-rest (eqb (m .number) 5) (eqb (m .number) 10) g y) in
-          named-by (a ∷ []) (left-by _ (ap (λ (f : Effect). f .edits) (R .aborts i))) (ap limitOf i) one)
+          named-by (a ∷ []) (left-by _ (ap (λ (f : Effect). f .edits) (Does.when (R .5) (eq-eqb (m .number) 10 i)))) (ap limitOf i) one)
 
       ticked-passes : m .number ≡ 15 → Members.Passes p k x r (each ticked r)
       ticked-passes i =
-          Members.passes-ticked p k x (left-by _ (ap (λ (f : Effect). f .edits) (R .ticks i))) r (λ v c. (small v c, Fits.placed-paused p waiters (threadOf k v) (placed v c))) (L .rolls)
+          Members.passes-ticked p k x (left-by _ (ap (λ (f : Effect). f .edits) (Does.when (R .6) (eq-eqb (m .number) 15 i)))) r (λ v c. (small v c, Fits.placed-paused p waiters (threadOf k v) (placed v c))) (L .rolls)
 
       other-passes : givesb d n m ≡ false → (eqb (m .number) 5 || eqb (m .number) 10) ≡ false → eqb (m .number) 15 ≡ false → Members.Passes p k x r r
-      unfolding movers counted
+      unfolding gathered
       other-passes g i j =
           let taken : takesb d n m ≡ false = by-test (takesb d n m) (λ y. not-waits z (Serving.takes-at d n low m k e R y .waits o t taker)) (λ y. y) in
           by-test (onb n m (rowOf d .empties))
@@ -166,13 +169,13 @@ module _ (d : Kind) (o : rolledb d ≡ true) (n t : ℕ) (k : Kernel) (r : List 
 
     -- ---- with 0x19: one record changes
     lifted-passes : e .success ≡ lifted → Members.Passes p k x r r
-    unfolding allb Lines.unstartedb Lines.unrankedb movers counted
+    unfolding allb Lines.unstartedb Lines.unrankedb gathered
     lifted-passes z = let q = subst (λ (s : Success). Shape s es) z (P .shape) .2 in Members.passes-same p k x r (left _ q (ap (allb Lines.unstartedb) q) (ap (allb (Lines.unrankedb p)) q)) (L .rolls)
 
     -- ---- with 0x101: the caller begins to wait
     -- who would join this line at the front would send to a queue on which somebody waits to receive
     front-gives : (v : ℕ) (state object ticks : ℕ) (h : Held) → mayMoveb (m .number) (target m) v (starts true state object ticks h) ≡ true → placedb p (inState state object ticks (threadOf k v)) ≡ true → givesb d n m ≡ true
-    unfolding mayMoveb implies inState givesb oneOf
+    unfolding mayMoveb implies inState givesb
     front-gives v state object ticks h y a =
         let send = and-left (eqb (m .number) 25 && eqb state onQueue) (eqb object (target m)) y in
         let number = eqb-true (m .number) 25 (and-left (eqb (m .number) 25) (eqb state onQueue) send) in
@@ -185,7 +188,7 @@ module _ (d : Kind) (o : rolledb d ≡ true) (n t : ℕ) (k : Kernel) (r : List 
     unfolding startsb mayb
     starts-passes v (ends c words) s q z = never s refl
     starts-passes v (starts front state object ticks h) s q z =
-        let may = Lines.all-first (mayb (m .number) (target m)) _ [] (ap (allb (mayb (m .number) (target m))) (sym q) ∙ P .may) in
+        let may = Edits.all-first (mayb (m .number) (target m)) _ [] (ap (allb (mayb (m .number) (target m))) (sym q) ∙ P .may) in
         Members.passes-same p k x r
         (Serving.leaves-none p waiters k F (m .number) (target m) e P v front state object ticks h q
         (λ f. by-test (placedb p (inState state object ticks (threadOf k v)))

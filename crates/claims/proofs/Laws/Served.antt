@@ -26,21 +26,21 @@ use Rattle.calls.specs.Refusals.{finishedb}
 use Rattle.calls.specs.Statuses as Statuses
 use Rattle.waiting.specs.Ticks.{timeoutStatus}
 use Rattle.waiting.specs.Fit.{waitsOnb, heldFitb, statusFitb, wordsFitb, senderFitb}
-use Rattle.kernel.specs.declared.Kernel.{Kernel}
-use Rattle.kernel.specs.Tables.{threadOf, heldAt}
-use Rattle.kernel.specs.Kinds.{Kind, Object, stateOn, placeOf}
-use Rattle.kernel.specs.Sound.{Fit}
-use Rattle.kernel.specs.Edits.{Move, Edit, Effect, statusBy, recordBy, heldBy, anyb, sameb, applied, movers, carriedOut}
-use Rattle.kernel.specs.Edits.Cause.{served, deleted, timedOut, aborted}
-use Rattle.kernel.specs.Edits.Move.{ends, starts, stops, turns}
-use Rattle.kernel.specs.Edits.Edit.{moves, alters, counts, ranks, stores, sets}
-use Rattle.kernel.specs.Roles.{allb}
-use Rattle.kernel.specs.Effects.{waitedb}
 use Rattle.kernel.proofs.Laws.Objects
 use Rattle.kernel.proofs.Laws.Fits
 use Rattle.kernel.proofs.Laws.Lines
 use Rattle.kernel.proofs.Laws.Changes
 use Rattle.kernel.proofs.Laws.Does
+use Rattle.kernel.specs.declared.Kernel.{Kernel}
+use Rattle.kernel.specs.Tables.{threadOf, heldAt}
+use Rattle.kernel.specs.Kinds.{Kind, Object, stateOn, placeOf}
+use Rattle.kernel.specs.Sound.{Fit}
+use Rattle.kernel.specs.Edits.{statusBy, Move, recordBy, heldBy, Edit, applied, gathered, movers, anyb, sameb, Effect, carriedOut}
+use Rattle.kernel.specs.Edits.Cause.{served, deleted, timedOut, aborted}
+use Rattle.kernel.specs.Edits.Move.{ends, starts, stops, turns}
+use Rattle.kernel.specs.Edits.Edit.{moves, alters, counts, ranks, stores, sets}
+use Rattle.kernel.specs.Roles.{allb}
+use Rattle.kernel.specs.Effects.{waitedb}
 use Rattle.claims.specs.Accounts.{servedb}
 
 -- ---- lists
@@ -181,7 +181,7 @@ module _ (d : Kind) (n : ℕ) (k : Kernel) (F : Fit k) where
 
     -- the only edit stores, or none serves anybody there
     pub later-stored : (y : Object d) → e .edits ≡ stores d n y ∷ [] → later d n k x ≡ 0
-    unfolding movers
+    unfolding gathered
     later-stored y z = filter-none (servedb x) line (λ u c. other-unserved u (here u c) (ap (λ (es : List Edit). count u (movers anyb es)) z ∙ Less.count-none u))
 
     pub later-apart : allb (apartb p) (e .edits) ≡ true → later d n k x ≡ 0
@@ -191,7 +191,7 @@ module _ (d : Kind) (n : ℕ) (k : Kernel) (F : Fit k) where
 
     -- the only edit serves the first
     pub later-first : (words : List ℕ) → waitedb k d n ≡ true → e .edits ≡ moves (firstAt (k .scheduler) p) (ends (served d n) words) ∷ [] → later d n k x ≡ 1
-    unfolding firstAt movers apartb allb
+    unfolding firstAt gathered apartb allb
     later-first words f q =
         let t = first line in
         let counts : (u : ℕ) → count u (movers anyb (e .edits)) ≡ count u (t ∷ []) = λ u. ap (λ (es : List Edit). count u (movers anyb es)) q in

@@ -17,22 +17,23 @@ use Rattle.scheduler.specs.Sound.{Steady}
 use Rattle.scheduler.specs.Orders.{lineAt}
 use Rattle.scheduler.proofs.Laws.Orders
 use Rattle.calls.specs.declared.held.Held.{Held}
-use Rattle.kernel.specs.declared.Kernel.{Kernel}
-use Rattle.kernel.specs.Tables.{threadOf}
-use Rattle.kernel.specs.Kinds.{Kind, createdb, objectAt, placeOf, sizeOf}
-use Rattle.kernel.specs.Kinds.Kind.{semaphore, queue, group, pool}
-use Rattle.kernel.specs.Sound.{Fit}
-use Rattle.kernel.specs.Edits.{Move, Edit, Effect, recordBy, frontb, anyb, leavesb, sameb, movers, counted, edited, applied, lineBy, linesBy, carriedOut}
-use Rattle.kernel.specs.Edits.Cause.{served, deleted, timedOut, aborted}
-use Rattle.kernel.specs.Edits.Move.{ends, starts, stops, turns}
-use Rattle.kernel.specs.Edits.Edit.{moves, alters, counts, ranks, stores, sets}
-use Rattle.kernel.specs.Roles.{rowOf, oneOf, kindOf, limitOf, mayMoveb, mayb, allb}
-use Rattle.kernel.specs.Effects.{Role, Takes, Gives, Taker, does, newOf}
+use Rattle.kernel.proofs.Laws.Edits
 use Rattle.kernel.proofs.Laws.Objects
 use Rattle.kernel.proofs.Laws.Fits
 use Rattle.kernel.proofs.Laws.Lines
 use Rattle.kernel.proofs.Laws.Changes
 use Rattle.kernel.proofs.Laws.Does
+use Rattle.kernel.specs.declared.Kernel.{Kernel}
+use Rattle.kernel.specs.Tables.{threadOf}
+use Rattle.kernel.specs.Kinds.{Kind, sizeOf, placeOf}
+use Rattle.kernel.specs.Kinds.Kind.{semaphore, queue, group, pool}
+use Rattle.kernel.specs.Sound.{Fit}
+use Rattle.kernel.specs.Edits.{Move, recordBy, frontb, Edit, edited, applied, gathered, mover, movers, anyb, countedBy, counted, sameb, leavesb, lineBy, linesBy, Effect, carriedOut}
+use Rattle.kernel.specs.Edits.Cause.{served, deleted, timedOut, aborted}
+use Rattle.kernel.specs.Edits.Move.{ends, starts, stops, turns}
+use Rattle.kernel.specs.Edits.Edit.{moves, alters, counts, ranks, stores, sets}
+use Rattle.kernel.specs.Roles.{rowOf, oneOf, kindOf, limitOf, mayMoveb, mayb, allb}
+use Rattle.kernel.specs.Uses.{Creates, Takes, Gives, Empties, Role}
 use Rattle.claims.specs.Lists.{Request}
 use Rattle.claims.specs.Rolls.{onb, givesb, takesb, prioritisesOrDeletesb}
 use Rattle.claims.proofs.Laws.Steps.{target}
@@ -42,9 +43,9 @@ use Rattle.claims.proofs.Laws.Members
 -- where no edit for which f holds moves so or counts, nobody does
 none-move : (c : Move → Bool) (f : Edit → Bool) → ((t : ℕ) (m : Move) → f (moves t m) ≡ true → c m ≡ false) → ((t : ℕ) → f (counts t) ≡ true → ⊥)
     → (es : List Edit) → allb f es ≡ true → (movers c es ≡ []) × (counted es ≡ [])
-unfolding movers counted
+unfolding gathered
 none-move c f h g [] a = (refl, refl)
-none-move c f h g (e ∷ es) a = both e (Lines.all-first f e es a) (none-move c f h g es (Lines.all-rest f e es a))
+none-move c f h g (e ∷ es) a = both e (Edits.all-first f e es a) (none-move c f h g es (Edits.all-rest f e es a))
   where
     both : (e : Edit) → f e ≡ true → (movers c es ≡ []) × (counted es ≡ []) → (movers c (e ∷ es) ≡ []) × (counted (e ∷ es) ≡ [])
     both (moves t m) y r = (rw (h t m y) (r .0), r .1)
@@ -63,7 +64,7 @@ all-from f g h (e ∷ es) a = and-in (g e) (allb g es) (h e (and-left (f e) (all
 module _ (p : Place) (waiters : 4 < p .state) where
   -- who stands there and does not leave is not moved
   unmoved : (k : Kernel) (e : Edit) → Fits.Requires k e → (u : ℕ) → placedb p (threadOf k u) ≡ true → count u (movers (leavesb p) (e ∷ [])) ≡ 0 → count u (movers anyb (e ∷ [])) ≡ 0
-  unfolding movers
+  unfolding gathered
   unmoved k (moves t m) G u y z =
       by-test (leavesb p m) (λ l. rw l at z)
       (λ l. by-eq t u
@@ -77,12 +78,12 @@ module _ (p : Place) (waiters : 4 < p .state) where
 
   -- and keeps what it holds, in tables y that differ by the choice
   kept-all : (k y : Kernel) → Steady (k .scheduler) → (es : List Edit) → Fits.RequiresAll k es → (u : ℕ) → Changes.Kept (applied k es) y u 0 → placedb p (threadOf k u) ≡ true → count u (movers (leavesb p) es) ≡ 0 → Changes.Kept k y u (count u (counted es))
-  unfolding applied counted
+  unfolding applied gathered
   kept-all k y S [] G u C h z = rw (Less.count-none u) C
   kept-all k y S (e ∷ es) G u C h z =
-      let c = Changes.movers-count (leavesb p) e es u in
+      let c = Edits.gathered-count (mover (leavesb p)) e es u in
       let a = Changes.kept-all k S (e ∷ []) (G .0, tt) u (unmoved k e (G .0) u h (omega (arith, c, z))) in
-      rw (ap (count u) (Members.counted-append (e ∷ []) es) ∙ Lists.count-append u (counted (e ∷ [])) (counted es))
+      rw (Edits.gathered-count countedBy e es u)
       (Changes.kept-then k (edited k e) y u _ _ a
       (kept-all (edited k e) y (Fits.steady-edit k S e (G .0)) es (G .1) u C (sym (Fits.placed-seen p waiters _) ∙ ap (placedb p) (a .seen) ∙ Fits.placed-seen p waiters _ ∙ h) (omega (arith, c, z))))
 
@@ -108,7 +109,7 @@ module _ (p : Place) (waiters : 4 < p .state) where
 
     -- one thread begins to wait, and does not join that line at the front
     pub leaves-none : (t : ℕ) (front : Bool) (state object ticks : ℕ) (h : Held) → es ≡ moves t (starts front state object ticks h) ∷ [] → (front ≡ true → placedb p (inState state object ticks (threadOf k t)) ≡ false) → Members.Leaves p k x [] []
-    unfolding linesBy lineBy frontb recordBy movers leavesb counted oneIf
+    unfolding linesBy lineBy frontb recordBy gathered leavesb oneIf
     leaves-none t front state object ticks h q back =
         let l = lineAt (k .scheduler) p in
         let b = placedb p (inState state object ticks (threadOf k t)) in
@@ -134,14 +135,13 @@ Own d [] = Unit {0}
 Own d (n ∷ ns) = ((kindOf n ≡ d) × (limitOf n ≡ sizeOf d)) × Own d ns
 
 pub own-row : (d : Kind) → Own d (rowOf d .takes) × Own d (rowOf d .gives) × Own d (rowOf d .empties) × Own d (rowOf d .deletes) × Own d (rowOf d .prioritises) × Own d (rowOf d .creates)
-unfolding kindOf limitOf
+unfolding limitOf
 own-row semaphore = (((refl, refl), tt), ((refl, refl), ((refl, refl), tt)), tt, ((refl, refl), tt), ((refl, refl), tt), ((refl, refl), tt))
 own-row queue = (((refl, refl), tt), ((refl, refl), ((refl, refl), tt)), ((refl, refl), tt), ((refl, refl), tt), ((refl, refl), tt), ((refl, refl), tt))
 own-row group = (((refl, refl), tt), ((refl, refl), tt), tt, ((refl, refl), tt), tt, ((refl, refl), tt))
 own-row pool = (((refl, refl), tt), ((refl, refl), tt), tt, ((refl, refl), tt), ((refl, refl), tt), ((refl, refl), tt))
 
 pub own-kind : (d : Kind) (n : ℕ) (l : List ℕ) → Own d l → oneOf n l ≡ true → (kindOf n ≡ d) × (limitOf n ≡ sizeOf d)
-unfolding oneOf
 own-kind d n [] own o = never o refl
 own-kind d n (i ∷ l) own o = by-test (eqb n i) (λ e. rw (eqb-true n i e) (own .0)) (λ e. own-kind d n l (own .1) (or-rest (eqb n i) (oneOf n l) o e))
 
@@ -168,17 +168,17 @@ module _ (d : Kind) (n : ℕ) (small : n < sizeOf d) (m : Request) where
   module _ (k : Kernel) (e : Effect) (R : Role k (m .number) (target m) (m .b) (m .c) (m .messages) e) where
     pub gives-at : givesb d n m ≡ true → Gives d k n (m .b) (m .c) (m .messages) e
     unfolding givesb
-    gives-at = at-object (λ c i. Gives c k i (m .b) (m .c) (m .messages) e) (λ c. rowOf c .gives) (own-row d .1) (R .gives)
+    gives-at = at-object (λ c i. Gives c k i (m .b) (m .c) (m .messages) e) (λ c. rowOf c .gives) (own-row d .1) (Does.when (R .2))
 
     pub takes-at : takesb d n m ≡ true → Takes d k n e
     unfolding takesb
-    takes-at = at-object (λ c i. Takes c k i e) (λ c. rowOf c .takes) (own-row d .0) (R .takes)
+    takes-at = at-object (λ c i. Takes c k i e) (λ c. rowOf c .takes) (own-row d .0) (Does.when (R .1))
 
-    pub empties-at : onb n m (rowOf d .empties) ≡ true → (t : ℕ) → Taker d k n t → e .edits ≡ []
-    empties-at = at-object (λ c i. (t : ℕ) → Taker c k i t → e .edits ≡ []) (λ c. rowOf c .empties) (own-row d .2) (R .empties)
+    pub empties-at : onb n m (rowOf d .empties) ≡ true → Empties d k n e
+    empties-at = at-object (λ c i. Empties c k i e) (λ c. rowOf c .empties) (own-row d .2) (Does.when (R .3))
 
-    pub creates-at : onb n m (rowOf d .creates) ≡ true → (createdb d (objectAt d k n) ≡ false) × (n < sizeOf d) × (e ≡ does (stores d n (newOf d (m .b) (m .c)) ∷ []))
-    creates-at = at-object (λ c i. (createdb c (objectAt c k i) ≡ false) × (i < sizeOf c) × (e ≡ does (stores c i (newOf c (m .b) (m .c)) ∷ []))) (λ c. rowOf c .creates) (own-row d .5) (R .creates)
+    pub creates-at : onb n m (rowOf d .creates) ≡ true → Creates d k n (m .b) (m .c) e
+    creates-at = at-object (λ c i. Creates c k i (m .b) (m .c) e) (λ c. rowOf c .creates) (own-row d .5) (Does.when (R .0))
 
   abbrev p : Place
   p = placeOf d n

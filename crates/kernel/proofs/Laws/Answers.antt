@@ -14,16 +14,18 @@ use Rattle.calls.specs.declared.held.Held.{Held}
 use Rattle.calls.specs.Refusals.{unless, firstOf}
 use Rattle.kernel.specs.declared.Kernel.{Kernel}
 use Rattle.kernel.specs.Tables.{withHeld, withQueue}
-use Rattle.kernel.specs.Answers.{Outcome, refused, guarded}
+use Rattle.kernel.specs.Answers.{refused}
+use Rattle.kernel.specs.Edits.{Effect, carriedOut, guarded}
 
 -- ---- refused or carried out
-pub is-refused : (k : Kernel) (reason : ℕ) (o : Outcome) → (reason ≡ 0 → ⊥) → guarded k reason o ≡ refused k reason
-unfolding guarded
-is-refused k reason o n = ap (λ (b : Bool). if b then o else refused k reason) (ne-eqb reason 0 n)
+module _ (k : Kernel) (reason : ℕ) (e : Effect) where
+  pub is-refused : (reason ≡ 0 → ⊥) → guarded k reason e ≡ refused k reason
+  unfolding guarded
+  is-refused n = ap (λ (b : Bool). if b then carriedOut k e else refused k reason) (ne-eqb reason 0 n)
 
-pub is-carried : (k : Kernel) (reason : ℕ) (o : Outcome) → reason ≡ 0 → guarded k reason o ≡ o
-unfolding guarded
-is-carried k reason o e = ap (λ (b : Bool). if b then o else refused k reason) (eq-eqb reason 0 e)
+  pub is-carried : reason ≡ 0 → guarded k reason e ≡ carriedOut k e
+  unfolding guarded
+  is-carried z = ap (λ (b : Bool). if b then carriedOut k e else refused k reason) (eq-eqb reason 0 z)
 
 -- ---- what the lack of a reason says
 pub first-none : (a b : ℕ) → firstOf a b ≡ 0 → a ≡ 0

@@ -8,6 +8,7 @@ use borrow.Author.Tests.{not-true, not-false}
 use Rattle.scheduler.specs.declared.Scheduler.{Scheduler}
 use Rattle.scheduler.specs.Choice.{rescheduled}
 use Rattle.calls.specs.Calls.{decoded}
+use Rattle.calls.specs.Held.{noWords}
 use Rattle.calls.specs.Statuses as Statuses
 use Rattle.calls.specs.declared.call.Call.{Call}
 use Rattle.calls.specs.declared.call.Decoded.{Decoded}
@@ -15,7 +16,9 @@ use Rattle.calls.specs.declared.call.Decoded.the-variants.{Known, Unknown}
 use Rattle.kernel.specs.declared.Kernel.{Kernel}
 use Rattle.kernel.specs.Tables.{runnerOf, withScheduler}
 use Rattle.kernel.specs.declared.Answer.{Answer}
-use Rattle.kernel.specs.Answers.{Outcome, answerOf, refused, carried, guarded, answered}
+use Rattle.kernel.specs.Answers.{answerOf, refused, answered}
+use Rattle.kernel.specs.Edits.{Edit, Effect, statusOf, endsb, movers, applied, carriedOut, guarded}
+use Rattle.kernel.specs.Effects.{does}
 use Rattle.kernel.specs.Sound.{soundb}
 use Rattle.kernel.specs.General.{service, nobodyRunsb, byCaller, byRecord, step, unsound, call}
 use Rattle.kernel.proofs.Laws.Answers.{is-refused}
@@ -48,13 +51,12 @@ module _ (k : Kernel) (number caller a b c d : ℕ) (ms : List ℕ) where
 
 -- ---- services
 -- a service that finds a reason is refused for it
-pub refused-by : (k : Kernel) {found reason : ℕ} (o : Outcome) {r : Answer}
-    → r ≡ answerOf (refused k found) → found ≡ reason → (found ≡ 0 → ⊥) → r ≡ answerOf (guarded k reason o)
-refused-by k {reason = reason} o p e n = p ∙ ap answerOf (ap (refused k) e ∙ sym (is-refused k reason o (λ w. n (e ∙ w))))
+pub refused-by : (k : Kernel) {found reason : ℕ} (e : Effect) {r : Answer}
+    → r ≡ answerOf (refused k found) → found ≡ reason → (found ≡ 0 → ⊥) → r ≡ answerOf (guarded k reason e)
+refused-by k {reason = reason} e p q n = p ∙ ap answerOf (ap (refused k) q ∙ sym (is-refused k reason e (λ w. n (q ∙ w))))
 
--- a service is carried out with the tables k, and so many waits have ended as a list has threads
-pub carried-as : (self : Kernel) (s : Scheduler) {k : Kernel} {n : ℕ} (status : ℕ) (words xs : List ℕ)
-    → withScheduler self s ≡ k → n ≡ length xs → answered self s status words n ≡ answerOf (carried k status words xs)
-unfolding answerOf carried answered withScheduler
-carried-as self s status words xs e n =
-    λ j. record { status = status; words = words; next = rescheduled (e j .scheduler) false .running; ended = n j; kernel = withScheduler (e j) (rescheduled (e j .scheduler) false) }
+-- a service that is done has carried out edits, and so many waits have ended as they end
+pub carried-as : (k self : Kernel) (s : Scheduler) {n : ℕ} (es : List Edit) → withScheduler self s ≡ applied k es → n ≡ length (movers endsb es) → answered self s 0 noWords n ≡ answerOf (carriedOut k (does es))
+unfolding answerOf carriedOut statusOf answered withScheduler
+carried-as k self s es e n =
+    λ j. record { status = 0; words = noWords; next = rescheduled (e j .scheduler) false .running; ended = n j; kernel = withScheduler (e j) (rescheduled (e j .scheduler) false) }

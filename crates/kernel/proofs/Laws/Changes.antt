@@ -1,6 +1,6 @@
 -- What becomes of each thread by any edits: its record, its ticks and what it holds.
 use mathlib.Core.Path.{_≡_, refl, sym, ap, _∙_}
-use mathlib.Core.List.{List, [], _∷_, _++_, append-nil}
+use mathlib.Core.List.{List, [], _∷_}
 use mathlib.Core.Bool.{Bool, true, false}
 use Prim.Native.Nat.{ℕ, _+_, _-_}
 use native.Mathlib.Omega.{arith}
@@ -24,12 +24,12 @@ use Rattle.waiting.proofs.Laws.Fit.{waits-nowhere}
 use Rattle.kernel.specs.declared.Kernel.{Kernel}
 use Rattle.kernel.specs.Tables.{threadOf, heldAt, withScheduler, withHeld, withClock}
 use Rattle.kernel.specs.Kinds.{Kind, stateOn}
-use Rattle.kernel.specs.Edits.{Move, Edit, recordBy, heldBy, frontb, startsb, anyb, edited, applied, movers, countedBy, counted}
+use Rattle.kernel.specs.Edits.{Move, Edit, recordBy, heldBy, frontb, startsb, anyb, edited, applied, mover, movers, gathered, countedBy, counted}
 use Rattle.kernel.specs.Edits.Edit.{moves, alters, counts, ranks, stores, sets}
 use Rattle.kernel.specs.Roles.{allb}
+use Rattle.kernel.proofs.Laws.Edits
 use Rattle.kernel.proofs.Laws.Objects
 use Rattle.kernel.proofs.Laws.Fits
-use Rattle.kernel.proofs.Laws.Lines
 
 -- from tables k to tables x thread u has n ticks less, and keeps its state, its object and what it holds
 pub record Kept (k x : Kernel) (u n : ℕ) : Type 0 where
@@ -102,7 +102,7 @@ unfolding withClock heldAt
 kept-clock k c u = kept-same k (withClock k c) u refl refl
 
 kept-edit : (k : Kernel) → Steady (k .scheduler) → (e : Edit) → Fits.Requires k e → (u : ℕ) → count u (movers anyb (e ∷ [])) ≡ 0 → Kept k (edited k e) u (count u (counted (e ∷ [])))
-unfolding edited movers counted count prioritisedAt withOrder threadAt heldAt
+unfolding edited gathered count prioritisedAt withOrder threadAt heldAt
 kept-edit k S (moves t m) G u z = kept-moved k S t m G u (other-than u t [] z)
 kept-edit k S (alters t f) G u z = kept-altered k S t (f (threadOf k t)) (G .0) (G .1) u
 kept-edit k S (counts t) G u z = kept-counted k S t G u
@@ -111,24 +111,17 @@ kept-edit k S (stores d n x) G u z =
     kept-same k _ u (ap (λ (l : List Held). getD l u noHeld) (Objects.stored-held d k n x)) (ap (λ (s : Scheduler). threadAt s u) (Objects.stored-scheduler d k n x))
 kept-edit k S (sets c) G u z = kept-clock k c u
 
-counted-then : (e : Edit) (es : List Edit) (u : ℕ) → count u (counted (e ∷ es)) ≡ count u (counted (e ∷ [])) + count u (counted es)
-unfolding counted
-counted-then e es u = ap (λ (l : List ℕ). count u (l ++ counted es)) (sym (append-nil (countedBy e))) ∙ Lists.count-append u (countedBy e ++ []) (counted es)
-
-pub movers-count : (c : Move → Bool) (e : Edit) (es : List Edit) (u : ℕ) → count u (movers c (e ∷ es)) ≡ count u (movers c (e ∷ [])) + count u (movers c es)
-movers-count c e es u = ap (count u) (Lines.movers-then c e es) ∙ Lists.count-append u (movers c (e ∷ [])) (movers c es)
-
 -- ---- edits none of which moves the thread
 none-moved : (u : ℕ) → count u (counted []) ≡ 0
-unfolding counted count
+unfolding gathered count
 none-moved u = refl
 
 pub kept-all : (k : Kernel) → Steady (k .scheduler) → (es : List Edit) → Fits.RequiresAll k es → (u : ℕ) → count u (movers anyb es) ≡ 0 → Kept k (applied k es) u (count u (counted es))
 unfolding applied
 kept-all k S [] G u z = rw (none-moved u) (kept-self k u)
 kept-all k S (e ∷ es) G u z =
-    let c = movers-count anyb e es u in
-    rw (counted-then e es u)
+    let c = Edits.gathered-count (mover anyb) e es u in
+    rw (Edits.gathered-count countedBy e es u)
     (kept-then k (edited k e) (applied (edited k e) es) u _ _ (kept-edit k S e (G .0) u (omega (arith, c, z)))
     (kept-all (edited k e) (Fits.steady-edit k S e (G .0)) es (G .1) u (omega (arith, c, z))))
 
@@ -151,7 +144,7 @@ pub record MovedOnce (k x : Kernel) (es : List Edit) (u : ℕ) : Type 0 where
 
 -- what holds of an edit, in a list that begins with another
 later : (u : ℕ) (m : Move) (e : Edit) (es : List Edit) → Among u m es → Among u m (e ∷ es)
-later u m e es A f a = A f (Lines.all-rest f e es a)
+later u m e es A f a = A f (Edits.all-rest f e es a)
 
 sized-edit : (k : Kernel) (e : Edit) → length (k .held) ≡ 32 → length (edited k e .held) ≡ 32
 unfolding edited withHeld withScheduler withClock
@@ -182,7 +175,7 @@ moved-once-first k S z t m es G u e n =
       less = 0;
       kept = kept-self k u;
       move = m;
-      among = λ f a. ap (λ (v : ℕ). f (moves v m)) e ∙ Lines.all-first f (moves t m) es a;
+      among = λ f a. ap (λ (v : ℕ). f (moves v m)) e ∙ Edits.all-first f (moves t m) es a;
       was = rw e (G .0 .was);
       is = rw e (G .0 .is);
       held = rest .held ∙ rw e (self .0);
@@ -205,22 +198,22 @@ moved-once-later k e es u n a W =
     }
 
 unmoved-first : (u : ℕ) → count u (movers anyb []) ≡ 0
-unfolding movers count
+unfolding gathered count
 unmoved-first u = refl
 
 moved-first : (t u : ℕ) (m : Move) → (u ≡ t → ⊥) → count u (movers anyb (moves t m ∷ [])) ≡ 0
-unfolding movers
+unfolding gathered
 moved-first t u m e = Lists.count-there u t [] (λ z. e (sym z)) ∙ Less.count-none u
 
 moved-here : (t u : ℕ) (m : Move) → u ≡ t → count u (movers anyb (moves t m ∷ [])) ≡ 1
-unfolding movers
+unfolding gathered
 moved-here t u m e = let h = Lists.count-here t [] in let z = Less.count-none t in let y = ap (λ (v : ℕ). count v (t ∷ [])) e in omega (arith, h, z, y)
 
 moved-once-head : (k : Kernel) → Steady (k .scheduler) → length (k .held) ≡ 32 → (e : Edit) (es : List Edit) → Fits.RequiresAll k (e ∷ es) → (u : ℕ) → (count u (movers anyb (e ∷ [])) ≡ 0 → ⊥) → count u (movers anyb (e ∷ es)) ≡ 1 → MovedOnce k (applied k (e ∷ es)) (e ∷ es) u
-unfolding movers
+unfolding gathered
 moved-once-head k S z (moves t m) es G u n c =
     by-eq u t
-    (λ e. moved-once-first k S z t m es G u e (let s = movers-count anyb (moves t m) es u in let h = moved-here t u m e in omega (arith, s, c, h)))
+    (λ e. moved-once-first k S z t m es G u e (let s = Edits.gathered-count (mover anyb) (moves t m) es u in let h = moved-here t u m e in omega (arith, s, c, h)))
     (λ e. absurd (n (moved-first t u m e)))
 moved-once-head k S z (alters t f) es G u n c = absurd (n (unmoved-first u))
 moved-once-head k S z (counts t) es G u n c = absurd (n (unmoved-first u))
@@ -233,7 +226,7 @@ moved-once k S z [] G u c = absurd (let n = unmoved-first u in omega (arith, n, 
 moved-once k S z (e ∷ es) G u c =
     by-eq (count u (movers anyb (e ∷ []))) 0
     (λ n. moved-once-later k e es u _ (kept-edit k S e (G .0) u n)
-    (moved-once (edited k e) (Fits.steady-edit k S e (G .0)) (sized-edit k e z) es (G .1) u (let s = movers-count anyb e es u in omega (arith, s, c, n))))
+    (moved-once (edited k e) (Fits.steady-edit k S e (G .0)) (sized-edit k e z) es (G .1) u (let s = Edits.gathered-count (mover anyb) e es u in omega (arith, s, c, n))))
     (λ n. moved-once-head k S z e es G u n c)
 
 -- who moved and did not begin to wait waits on nothing

@@ -1,13 +1,14 @@
 -- What a call does: it is refused for a reason, or it carries out an effect. What follows from that for every call.
-use mathlib.Core.Path.{_≡_, refl, sym, ap, _∙_}
+use mathlib.Core.Path.{_≡_, refl, sym, ap, subst}
 use mathlib.Core.List.{List, [], _∷_}
 use mathlib.Core.Bool.{Bool, true, false}
 use Prim.Native.Nat.{ℕ, _<_, _≤_}
+use Prim.{Unit, tt}
 use native.Mathlib.Omega.{arith}
 use lib.Dec.{eqb}
 use borrow.Author.Tests.{ne-eqb}
 use Rattle.lines.specs.Lists.{count}
-use Rattle.lines.proofs.Laws.Logic.{by-eq, never}
+use Rattle.lines.proofs.Laws.Logic.{by-eq, by-choice, never}
 use Rattle.scheduler.specs.declared.thread.Thread.{Thread}
 use Rattle.scheduler.specs.declared.thread.Place.{Place}
 use Rattle.scheduler.specs.Orders.{lineAt}
@@ -15,17 +16,17 @@ use Rattle.scheduler.specs.Choice.{withMark}
 use Rattle.scheduler.proofs.Laws.Choosing
 use Rattle.kernel.specs.declared.Kernel.{Kernel}
 use Rattle.kernel.specs.Tables.{runnerOf, heldAt, withScheduler}
-use Rattle.kernel.specs.Answers.{Outcome, refused, guarded}
+use Rattle.kernel.specs.Answers.{Outcome, refused}
 use Rattle.kernel.specs.Claims.{doneb, Unchanged}
 use Rattle.kernel.specs.Sound.{Sound}
 use Rattle.kernel.proofs.Laws.Answers.{is-refused, is-carried}
 use Rattle.kernel.specs.Kinds.{Kind, tableOf}
 use Rattle.kernel.specs.Sound.{Fit}
-use Rattle.kernel.specs.Edits.{Move, Edit, Success, Effect, statusOf, startsb, anyb, movers, applied, carriedOut}
+use Rattle.kernel.specs.Edits.{Move, Edit, Success, Effect, statusOf, startsb, anyb, movers, applied, carriedOut, guarded}
 use Rattle.kernel.specs.Edits.Edit.{moves, alters}
 use Rattle.kernel.specs.Edits.Success.{done, lifted, waits}
 use Rattle.kernel.specs.Roles.{mayb, allb}
-use Rattle.kernel.specs.Effects.{Role}
+use Rattle.kernel.specs.Uses.{When, Role}
 use Rattle.kernel.proofs.Laws.Objects
 use Rattle.kernel.proofs.Laws.Fits
 use Rattle.kernel.proofs.Laws.Lines
@@ -47,24 +48,29 @@ pub record Proper (k : Kernel) (n a : ℕ) (e : Effect) : Type 0 where
   pub may : allb (mayb n a) (e .edits) ≡ true
   pub shape : Shape (e .success) (e .edits)
 
--- the one theorem of a call
-pub record Does (k : Kernel) (caller n a b c : ℕ) (messages : List ℕ) (o : Outcome) : Type 0 where
-  pub reason : ℕ
-  pub effect : Effect
-  pub is : o ≡ guarded k reason (carriedOut k effect)
+-- the one theorem of a call that is refused for a reason or carries out an effect
+pub record Does (k : Kernel) (caller n a b c : ℕ) (messages : List ℕ) (reason : ℕ) (effect : Effect) : Type 0 where
   pub proper : Sound k → (eqb caller 2 ≡ true → runnerOf k < 32) → reason ≡ 0 → Proper k n a effect
   pub role : Sound k → reason ≡ 0 → Role k n a b c messages effect
+
+-- what is asked of a role, and a call that has none
+pub when : {b : Bool} {A : Type 0} → When b A → b ≡ true → A
+when {b} {A} w e = subst (λ (x : Bool). When x A) e w
+
+abbrev pub none : Unit {0} × Unit {0} × Unit {0} × Unit {0} × Unit {0} × Unit {0} × Unit {0}
+none = (tt, tt, tt, tt, tt, tt, tt)
 
 -- ---- any call on sound tables
 pub data Step (k : Kernel) (n a b c : ℕ) (messages : List ℕ) (o : Outcome) : Type 0 where
   refuses : (s : ℕ) → eqb s 0 ≡ false → o ≡ refused k s → Step k n a b c messages o
   carries : (e : Effect) → o ≡ carriedOut k e → Proper k n a e → Role k n a b c messages e → Step k n a b c messages o
 
-pub step-of : (k : Kernel) → Sound k → (caller n a b c : ℕ) (messages : List ℕ) (o : Outcome) → (eqb caller 2 ≡ true → runnerOf k < 32) → Does k caller n a b c messages o → Step k n a b c messages o
-step-of k S caller n a b c messages o runs D =
-    by-eq (D .reason) 0
-    (λ z. carries (D .effect) (D .is ∙ is-carried k (D .reason) (carriedOut k (D .effect)) z) (D .proper S runs z) (D .role S z))
-    (λ z. refuses (D .reason) (ne-eqb (D .reason) 0 z) (D .is ∙ is-refused k (D .reason) (carriedOut k (D .effect)) z))
+pub step-of : (k : Kernel) → Sound k → (caller n a b c : ℕ) (messages : List ℕ) (reason : ℕ) (e : Effect) → (eqb caller 2 ≡ true → runnerOf k < 32) → Does k caller n a b c messages reason e
+    → Step k n a b c messages (guarded k reason e)
+step-of k S caller n a b c messages reason e runs D =
+    by-eq reason 0
+    (λ z. carries e (is-carried k reason e z) (D .proper S runs z) (D .role S z))
+    (λ z. refuses reason (ne-eqb reason 0 z) (is-refused k reason e z))
 
 -- to wait is not to be done
 doneOf : Success → Bool
@@ -83,13 +89,11 @@ done-status done = refl
 done-status lifted = refl
 done-status waits = refl
 
-pub does-refused : (k : Kernel) (caller n a b c : ℕ) (messages : List ℕ) (o : Outcome) → Does k caller n a b c messages o → doneb (o .status) ≡ false → Unchanged k o
-unfolding refused carriedOut
-does-refused k caller n a b c messages o D u =
-    by-eq (D .reason) 0
-    (λ z. never (done-status (D .effect .success)) (ap (λ (x : Outcome). doneb (x .status)) (sym (D .is ∙ is-carried k (D .reason) (carriedOut k (D .effect)) z)) ∙ u))
-    (λ z. let r = D .is ∙ is-refused k (D .reason) (carriedOut k (D .effect)) z in
-    record { kernel = ap (λ (x : Outcome). x .kernel) r; words = ap (λ (x : Outcome). x .words) r; ended = ap (λ (x : Outcome). x .ended) r })
+pub guarded-refused : (k : Kernel) (reason : ℕ) (e : Effect) → doneb (guarded k reason e .status) ≡ false → Unchanged k (guarded k reason e)
+unfolding guarded refused carriedOut
+guarded-refused k reason e =
+    by-choice (λ (o : Outcome). doneb (o .status) ≡ false → Unchanged k o) (eqb reason 0) (carriedOut k e) (refused k reason)
+    (λ z u. never (done-status (e .success)) u) (λ z u. record { kernel = refl; words = refl; ended = refl })
 
 -- ---- after the choice
 module _ (k : Kernel) (n a : ℕ) (e : Effect) (P : Proper k n a e) where

@@ -6,7 +6,7 @@ use Prim.Native.Nat.{ℕ, _<_, _≤_}
 use Prim.{tt}
 use native.Mathlib.Omega.{arith}
 use lib.Dec.{eqb, ltb}
-use borrow.Author.Tests.{eqb-true, eq-eqb, ltb-true, ne-eqb}
+use borrow.Author.Tests.{eqb-true, eq-eqb, ltb-true, ne-eqb, not-true}
 use Rattle.lines.specs.Logic.{if_then_else_}
 use Rattle.lines.specs.Lists.{count}
 use Rattle.lines.proofs.Laws.Logic.{by-test, by-eq, never, and-left, and-right, and-in, or-rest}
@@ -14,7 +14,6 @@ use Rattle.lines.proofs.Laws.Lists
 use Rattle.lines.proofs.Laws.Less
 use Rattle.scheduler.specs.declared.thread.Thread.{Thread}
 use Rattle.scheduler.specs.Threads.{readyb, pausedb, awake, inState}
-use Rattle.scheduler.specs.Orders.{joined, woken}
 use Rattle.scheduler.specs.Sound.{fitb}
 use Rattle.scheduler.proofs.Laws.States
 use Rattle.calls.specs.declared.held.Held.{Held}
@@ -23,109 +22,30 @@ use Rattle.calls.specs.Refusals.{unless, firstOf}
 use Rattle.waiting.specs.Fit.{waitsOnb, heldFitb}
 use Rattle.kernel.specs.declared.Kernel.{Kernel}
 use Rattle.kernel.specs.Tables.{threadOf, runnerOf, heldAt}
-use Rattle.kernel.specs.Answers.{Outcome, carried, guarded}
-use Rattle.kernel.specs.Waits.{endWait, endEach}
 use Rattle.kernel.specs.Sound.{Sound}
 use Rattle.kernel.proofs.Laws.Answers.{first-none, unless-none}
-use Rattle.kernel.specs.Kinds.{Kind, Object, sizeOf, stateOn, objectAt, withObject, createdb, waitb}
+use Rattle.kernel.specs.Kinds.{Kind, Object, stateOn, objectAt, waitb}
 use Rattle.kernel.specs.Sound.{MayWait, Fit}
-use Rattle.kernel.specs.Edits.{Cause, Move, Edit, Success, Effect, statusBy, statusOf, recordBy, heldBy, frontb, anyb, endsb, startsb, movers, counted, edited, applied, carriedOut}
+use Rattle.kernel.specs.Edits.{Cause, Edit, Success, recordBy, anyb, startsb, mover, movers, counted, gathered, edited, applied}
 use Rattle.kernel.specs.Edits.Move.{ends, starts, turns}
 use Rattle.kernel.specs.Edits.Edit.{moves, alters, counts, ranks, stores, sets}
 use Rattle.kernel.specs.Edits.Success.{done, waits}
-use Rattle.kernel.specs.Roles.{Row, rowOf, oneOf, kindOf, mayMoveb, mayb, allb}
-use Rattle.kernel.specs.Effects.{gives, does, begins, endsEach, newOf, Takes, Gives, Role}
+use Rattle.kernel.specs.Roles.{mayMoveb, mayb, allb}
+use Rattle.kernel.specs.Effects.{gives, does, begins, endsEach}
+use Rattle.kernel.proofs.Laws.Edits
 use Rattle.kernel.proofs.Laws.Objects
+use Rattle.kernel.proofs.Laws.Waits
 use Rattle.waiting.proofs.Laws.Held
 use Rattle.kernel.proofs.Laws.Fits
 use Rattle.kernel.proofs.Laws.Lines
 use Rattle.kernel.proofs.Laws.Changes
 use Rattle.kernel.proofs.Laws.Does
 
--- ---- roles
--- none of two lists
-none-first : (n : ℕ) (xs ys : List ℕ) → oneOf n (xs ++ ys) ≡ false → oneOf n xs ≡ false
-unfolding oneOf
-none-first n [] ys e = refl
-none-first n (x ∷ xs) ys e = by-test (eqb n x) (λ q. never (rw q refl) e) (λ q. rw q (none-first n xs ys (rw q at e)))
-
-none-second : (n : ℕ) (xs ys : List ℕ) → oneOf n (xs ++ ys) ≡ false → oneOf n ys ≡ false
-unfolding oneOf
-none-second n [] ys e = e
-none-second n (x ∷ xs) ys e = by-test (eqb n x) (λ q. never (rw q refl) e) (λ q. none-second n xs ys (rw q at e))
-
--- the calls that name a thread whose wait they may end, and the tick
-abbrev pub named : List ℕ
-named = 5 ∷ 10 ∷ 15 ∷ []
-
--- the numbers that have a role
-abbrev pub roles : ℕ → List ℕ
-roles n = rowOf (kindOf n) .creates ++ (rowOf (kindOf n) .takes ++ (rowOf (kindOf n) .gives ++ (rowOf (kindOf n) .empties ++ named)))
-
--- a call that is none of those named
-unnamed : {P : Type 0} (number m : ℕ) → oneOf number named ≡ false → oneOf m named ≡ true → number ≡ m → P
-unnamed number m none some e = never (ap (λ (i : ℕ). oneOf i named) e ∙ some) none
-
--- a call that has none
-pub plain-does : (k : Kernel) (b c : ℕ) (messages : List ℕ) (caller number n : ℕ) (o : Outcome) → oneOf number (roles number) ≡ false → (reason : ℕ) (effect : Effect) → o ≡ guarded k reason (carriedOut k effect)
-    → (Sound k → (eqb caller 2 ≡ true → runnerOf k < 32) → reason ≡ 0 → Does.Proper k number n effect) → Does.Does k caller number n b c messages o
-unfolding oneOf
-plain-does k b c messages caller number n o none reason effect is proper =
-    let r = rowOf (kindOf number) in
-    let e = none-second number (r .creates) _ none in
-    let f = none-second number (r .takes) _ e in
-    let g = none-second number (r .gives) _ f in
-    let h = none-second number (r .empties) _ g in
-    record {
-      reason = reason;
-      effect = effect;
-      is = is;
-      proper = proper;
-      role = λ S z. record {
-        creates = λ q. never q (none-first number (r .creates) _ none);
-        takes = λ q. never q (none-first number (r .takes) _ e);
-        gives = λ q. never q (none-first number (r .gives) _ f);
-        empties = λ q. never q (none-first number (r .empties) _ g);
-        terminates = unnamed number 5 h refl;
-        aborts = unnamed number 10 h refl;
-        ticks = unnamed number 15 h refl;
-      };
-    }
-
--- a call that creates, takes, gives or empties, and nothing else
-module _ (k : Kernel) (number n b c : ℕ) (messages : List ℕ) (e : Effect) (other : oneOf number named ≡ false) where
-  abbrev row : Row
-  row = rowOf (kindOf number)
-
-  pub create-role : oneOf number (row .takes) ≡ false → oneOf number (row .gives) ≡ false → oneOf number (row .empties) ≡ false → createdb (kindOf number) (objectAt (kindOf number) k n) ≡ false → n < sizeOf (kindOf number)
-      → e ≡ does (stores (kindOf number) n (newOf (kindOf number) b c) ∷ []) → Role k number n b c messages e
-  unfolding oneOf
-  create-role y z w new small is = record { creates = λ q. (new, small, is); takes = λ q. never q y; gives = λ q. never q z; empties = λ q. never q w; terminates = unnamed number 5 other refl; aborts = unnamed number 10 other refl; ticks = unnamed number 15 other refl }
-
-  pub take-role : oneOf number (row .creates) ≡ false → oneOf number (row .gives) ≡ false → oneOf number (row .empties) ≡ false → Takes (kindOf number) k n e → Role k number n b c messages e
-  unfolding oneOf
-  take-role x z w T = record { creates = λ q. never q x; takes = λ q. T; gives = λ q. never q z; empties = λ q. never q w; terminates = unnamed number 5 other refl; aborts = unnamed number 10 other refl; ticks = unnamed number 15 other refl }
-
-  pub give-role : oneOf number (row .creates) ≡ false → oneOf number (row .takes) ≡ false → oneOf number (row .empties) ≡ false → Gives (kindOf number) k n b c messages e → Role k number n b c messages e
-  unfolding oneOf
-  give-role x y w G = record { creates = λ q. never q x; takes = λ q. never q y; gives = λ q. G; empties = λ q. never q w; terminates = unnamed number 5 other refl; aborts = unnamed number 10 other refl; ticks = unnamed number 15 other refl }
-
--- ---- the answer of a call that is carried out
-pub carries : (k x : Kernel) (s : Success) (words ended : List ℕ) (es : List Edit) → x ≡ applied k es → ended ≡ movers endsb es
-    → carried x (statusOf s) words ended ≡ carriedOut k (record { success = s; words = words; relinquishes = false; edits = es })
-unfolding carried carriedOut
-carries k x s words ended es p q = λ i. carried (p i) (statusOf s) words (q i)
-
--- one of two
-pub either : (k : Kernel) (b : Bool) (o p : Outcome) (e f : Effect) → o ≡ carriedOut k e → p ≡ carriedOut k f → (if b then o else p) ≡ carriedOut k (if b then e else f)
-either k true o p e f x y = x
-either k false o p e f x y = y
-
+-- ---- reasons and first arguments
 -- its first argument names what it changes
 pub here : (n : ℕ) → (eqb n n && true) ≡ true
 here n = and-in (eqb n n) true (eq-eqb n n refl) refl
 
--- ---- reasons
 pub is-true : (b : Bool) (status rest : ℕ) → 0 < status → firstOf (unless b status) rest ≡ 0 → b ≡ true
 is-true b status rest pos e = unless-none b status pos (first-none _ rest e)
 
@@ -157,7 +77,7 @@ pub only-one : (t u : ℕ) → 0 < count u (t ∷ []) → u ≡ t
 only-one t u l = by-eq u t (λ z. z) (λ z. absurd (let y = Lists.count-there u t [] (λ q. z (sym q)) in let c = Less.count-none u in omega (arith, l, y, c)))
 
 once-one : (e : Edit) (u : ℕ) → count u (movers anyb (e ∷ [])) ≤ 1
-unfolding movers count
+unfolding gathered count
 once-one (moves t m) u = once-only t u
 once-one (alters t f) u = omega arith
 once-one (counts t) u = omega arith
@@ -167,7 +87,7 @@ once-one (sets c) u = omega arith
 
 module _ (k : Kernel) (F : Fit k) (n a : ℕ) where
   pub proper-none : (words : List ℕ) → Does.Proper k n a (gives words [])
-  unfolding applied movers count allb
+  unfolding applied gathered count allb
   proper-none words = record { requires = tt; fit = F; once = λ u. omega arith; may = refl; shape = refl }
 
   pub proper-one : (s : Success) (words : List ℕ) (b : Bool) (e : Edit) → Fits.Requires k e → Fits.KeepsFit k e → mayb n a e ≡ true → Does.Shape s (e ∷ [])
@@ -238,25 +158,19 @@ module _ (k : Kernel) (F : Fit k) (n a : ℕ) where
   proper-rank d i m = proper-one done noWords false (ranks d i) tt tt m refl
 
 -- ---- lists of edits one behind the other
-pub applied-append : (k : Kernel) (es fs : List Edit) → applied k (es ++ fs) ≡ applied (applied k es) fs
-unfolding applied
-applied-append k [] fs = refl
-applied-append k (e ∷ es) fs = applied-append (edited k e) es fs
-
 pub fits-append : (k : Kernel) (es fs : List Edit) → Fits.Fits k es → Fits.Fits (applied k es) fs → Fits.Fits k (es ++ fs)
 unfolding applied
 fits-append k [] fs a b = b
 fits-append k (e ∷ es) fs a b = (a .0, fits-append (edited k e) es fs (a .1) b)
 
+-- several edits that are fit one after the other, and move nobody twice
+pub proper-all : (k : Kernel) → Fit k → (n a : ℕ) (es : List Edit) (words : List ℕ) → Fits.Fits k es → ((u : ℕ) → count u (movers anyb es) ≤ 1) → allb (mayb n a) es ≡ true → allb Lines.unstartedb es ≡ true → Does.Proper k n a (gives words es)
+proper-all k F n a es words fits once may shape = record { requires = Fits.requires-of k es fits; fit = Fits.fit-all k F es fits; once = once; may = may; shape = shape }
+
 -- ---- the waits of several end
 module _ (c : Cause) (words : List ℕ) where
-  pub movers-each : (f : Move → Bool) (xs : List ℕ) → f (ends c words) ≡ true → movers f (endsEach c words xs) ≡ xs
-  unfolding movers endsEach
-  movers-each f [] e = refl
-  movers-each f (t ∷ ts) e = rw e (ap (λ (l : List ℕ). t ∷ l) (movers-each f ts e))
-
   counted-each : (xs : List ℕ) → counted (endsEach c words xs) ≡ []
-  unfolding counted endsEach
+  unfolding gathered endsEach
   counted-each [] = refl
   counted-each (t ∷ ts) = counted-each ts
 
@@ -264,24 +178,6 @@ module _ (c : Cause) (words : List ℕ) where
   unfolding allb endsEach
   all-each f [] e = refl
   all-each f (t ∷ ts) e = and-in (f (moves t (ends c words))) _ (e t) (all-each f ts e)
-
-  -- with a cause whose status is the same for all, as the definitions of services say it
-  module _ (status : ℕ) (same : (th : Thread) (h : Held) → statusBy c th h ≡ status) where
-    edited-ends : (k : Kernel) (t : ℕ) → edited k (moves t (ends c words)) ≡ endWait k t status words
-    unfolding edited recordBy heldBy frontb endWait woken joined
-    edited-ends k t = ap (λ (s : ℕ). endWait k t s words) (same (threadOf k t) (heldAt k t))
-
-    applied-each : (k : Kernel) (xs : List ℕ) → applied k (endsEach c words xs) ≡ endEach k status words xs
-    unfolding applied endsEach endEach
-    applied-each k [] = refl
-    applied-each k (t ∷ ts) = applied-each (edited k (moves t (ends c words))) ts ∙ ap (λ (x : Kernel). endEach x status words ts) (edited-ends k t)
-
-    pub carries-each : (d : Kind) (n : ℕ) (x : Object d) (k : Kernel) (out xs : List ℕ) → carried (withObject d (endEach k status words xs) n x) 0 out xs ≡ carriedOut k (gives out (endsEach c words xs ++ (stores d n x ∷ [])))
-    unfolding applied edited movers endsb statusOf
-    carries-each d n x k out xs =
-        carries k _ done out xs (endsEach c words xs ++ (stores d n x ∷ []))
-        (sym (applied-append k (endsEach c words xs) (stores d n x ∷ []) ∙ ap (λ (y : Kernel). withObject d y n x) (applied-each k xs)))
-        (sym (Lines.movers-append endsb (endsEach c words xs) (stores d n x ∷ []) ∙ ap (λ (l : List ℕ). l ++ []) (movers-each endsb xs refl) ∙ append-nil xs))
 
   -- each of them waits as the cause says, and once
   fits-each : (k : Kernel) → Fit k → (xs : List ℕ) → ((u : ℕ) → count u xs ≤ 1) → ((u : ℕ) → 0 < count u xs → Fits.Was (ends c words) (threadOf k u)) → Fits.Fits k (endsEach c words xs)
@@ -310,25 +206,22 @@ module _ (c : Cause) (words : List ℕ) where
     unfolding Lines.unstartedb startsb
     each-left d u w =
         let requires = Fits.requires-of k (endsEach c words xs) (fits-each k F xs once was) in
-        let moved = ap (count u) (movers-each anyb xs refl) in
+        let moved = ap (count u) (Waits.movers-each c words anyb xs refl) in
         by-eq (count u xs) 0
         (λ z. (z, rw (← Less.count-none u, ← counted-each xs) (Changes.kept-all k (F .steady) (endsEach c words xs) requires u (moved ∙ z))))
         (λ z. let o = once u in
         let q : count u xs ≡ 1 = omega (arith, z, o) in
         let g = Changes.moved-once k (F .steady) (F .heldSized) (endsEach c words xs) requires u (moved ∙ q) in
-        never w (Changes.moved-once-waits k ended (endsEach c words xs) u g (Lines.not-no (startsb (g .move)) (g .among Lines.unstartedb (all-each Lines.unstartedb xs (λ t. refl)))) d))
+        never w (Changes.moved-once-waits k ended (endsEach c words xs) u g (not-true (startsb (g .move)) (g .among Lines.unstartedb (all-each Lines.unstartedb xs (λ t. refl)))) d))
 
     -- and then an object gets another record
     pub proper-each : (n a : ℕ) (d : Kind) (i : ℕ) (x : Object d) (out : List ℕ) → Fits.Stored d ended i x → ((t : ℕ) → mayMoveb n a t (ends c words) ≡ true) → mayb n a (stores d i x) ≡ true
         → Does.Proper k n a (gives out (endsEach c words xs ++ (stores d i x ∷ [])))
-    unfolding applied movers allb mayb Lines.unstartedb startsb
+    unfolding applied gathered allb mayb Lines.unstartedb startsb
     proper-each n a d i x out G m s =
         let es = endsEach c words xs in
-        let fits = fits-append k es (stores d i x ∷ []) (fits-each k F xs once was) ((tt, G), tt) in
-        record {
-          requires = Fits.requires-of k (es ++ (stores d i x ∷ [])) fits;
-          fit = Fits.fit-all k F (es ++ (stores d i x ∷ [])) fits;
-          once = λ u. (let o = once u in let q = ap (count u) (Lines.movers-append anyb es (stores d i x ∷ []) ∙ append-nil (movers anyb es) ∙ movers-each anyb xs refl) in omega (arith, o, q));
-          may = Lines.all-append (mayb n a) es (stores d i x ∷ []) (all-each (mayb n a) xs m) (and-in (mayb n a (stores d i x)) true s refl);
-          shape = Lines.all-append Lines.unstartedb es (stores d i x ∷ []) (all-each Lines.unstartedb xs (λ t. refl)) refl;
-        }
+        let store = stores d i x ∷ [] in
+        proper-all k F n a (es ++ store) out (fits-append k es store (fits-each k F xs once was) ((tt, G), tt))
+        (λ u. let o = once u in let q = ap (count u) (Edits.gathered-append (mover anyb) es store ∙ append-nil (movers anyb es) ∙ Waits.movers-each c words anyb xs refl) in omega (arith, o, q))
+        (Edits.all-append (mayb n a) es store (all-each (mayb n a) xs m) (and-in (mayb n a (stores d i x)) true s refl))
+        (Edits.all-append Lines.unstartedb es store (all-each Lines.unstartedb xs (λ t. refl)) refl)

@@ -20,7 +20,8 @@ use Rattle.calls.specs.declared.held.Held.{Held}
 use Rattle.calls.specs.Held.{noHeld}
 use Rattle.kernel.specs.declared.Kernel.{Kernel}
 use Rattle.kernel.specs.Tables.{heldAt}
-use Rattle.kernel.specs.Groups.{groupPlace, wokenBy, clearsBy}
+use Rattle.kernel.specs.Kinds.{Kind, placeOf}
+use Rattle.kernel.specs.Groups.{wokenBy, clearsBy}
 
 -- the same flags of all in a list
 union-same : (f g : ℕ → ℕ) (xs : List ℕ) → ((u : ℕ) → f u ≡ g u) → unionOf f xs ≡ unionOf g xs
@@ -45,17 +46,17 @@ table-more k field xs t v l e h j m =
     (λ q. getD-set-other xs t j v 0 q ∙ h j (omega (arith, m, q)))
 
 module _ (k : Kernel) (n flags : ℕ) (requests options : List ℕ) (rs : (u : ℕ) → getD requests u 0 ≡ heldAt k u .request) (os : (u : ℕ) → getD options u 0 ≡ heldAt k u .option) where
-  pub woken-by : wokenOf flags requests options (lineAt (k .scheduler) (groupPlace n)) ≡ wokenBy k n flags
+  pub woken-by : wokenOf flags requests options (lineAt (k .scheduler) (placeOf Kind.group n)) ≡ wokenBy k n flags
   unfolding wokenOf wokenBy metAtb
-  woken-by = filter-same _ _ (lineAt (k .scheduler) (groupPlace n)) (λ u. (λ i. metb flags (rs u i) (os u i)))
+  woken-by = filter-same _ _ (lineAt (k .scheduler) (placeOf Kind.group n)) (λ u. (λ i. metb flags (rs u i) (os u i)))
 
-  pub clears-by : clearsOf flags requests options (lineAt (k .scheduler) (groupPlace n)) ≡ clearsBy k n flags
+  pub clears-by : clearsOf flags requests options (lineAt (k .scheduler) (placeOf Kind.group n)) ≡ clearsBy k n flags
   unfolding clearsOf clearsBy
   clears-by = union-same _ _ _ (λ u. (λ i. clearOf (rs u i) (os u i))) ∙ ap (unionOf (λ t. clearOf (heldAt k t .request) (heldAt k t .option))) woken-by
 
   -- they fit into a line
-  pub woken-members : length (lineAt (k .scheduler) (groupPlace n)) ≤ 32 → members (lineOf (wokenOf flags requests options (lineAt (k .scheduler) (groupPlace n)))) ≡ wokenBy k n flags
+  pub woken-members : length (lineAt (k .scheduler) (placeOf Kind.group n)) ≤ 32 → members (lineOf (wokenOf flags requests options (lineAt (k .scheduler) (placeOf Kind.group n)))) ≡ wokenBy k n flags
   unfolding wokenOf
   woken-members l =
-      let s = length-part (metAtb flags requests options) (lineAt (k .scheduler) (groupPlace n)) in
-      members-short (filter (metAtb flags requests options) (lineAt (k .scheduler) (groupPlace n))) (omega (arith, l, s)) ∙ woken-by
+      let s = length-part (metAtb flags requests options) (lineAt (k .scheduler) (placeOf Kind.group n)) in
+      members-short (filter (metAtb flags requests options) (lineAt (k .scheduler) (placeOf Kind.group n))) (omega (arith, l, s)) ∙ woken-by

@@ -1,10 +1,10 @@
 -- The line of every place after any edits.
 use mathlib.Core.Path.{_≡_, refl, sym, ap, _∙_}
-use mathlib.Core.List.{List, [], _∷_, _++_, append-nil, append-assoc}
+use mathlib.Core.List.{List, [], _∷_, _++_, append-nil}
 use mathlib.Core.Bool.{Bool, true, false, not}
 use Prim.Native.Nat.{ℕ, _<_}
 use lib.Dec.{eqb}
-use borrow.Author.Tests.{eqb-true, eq-eqb}
+use borrow.Author.Tests.{eqb-true, eq-eqb, not-true}
 use Rattle.lines.specs.Logic.{if_then_else_, oneIf}
 use Rattle.lines.specs.Lists.{without, onlyIf, prioritised, less}
 use Rattle.lines.proofs.Laws.Logic.{by-test, by-choice, never, and-left, and-right, and-in}
@@ -21,11 +21,12 @@ use Rattle.scheduler.proofs.Laws.Orders
 use Rattle.kernel.specs.declared.Kernel.{Kernel}
 use Rattle.kernel.specs.Tables.{threadOf, withScheduler, withHeld, withClock}
 use Rattle.kernel.specs.Kinds.{placeOf}
-use Rattle.kernel.specs.Edits.{Move, Edit, recordBy, frontb, startsb, leavesb, sameb, edited, applied, mover, movers, lineBy, linesBy}
+use Rattle.kernel.specs.Edits.{Move, Edit, recordBy, frontb, startsb, leavesb, sameb, edited, applied, mover, movers, gathered, lineBy, linesBy}
 use Rattle.kernel.specs.Edits.Cause.{served, deleted, timedOut, aborted}
 use Rattle.kernel.specs.Edits.Move.{ends, starts, stops, turns}
 use Rattle.kernel.specs.Edits.Edit.{moves, alters, counts, ranks, stores, sets}
 use Rattle.kernel.specs.Roles.{allb}
+use Rattle.kernel.proofs.Laws.Edits
 use Rattle.kernel.proofs.Laws.Objects
 use Rattle.kernel.proofs.Laws.Fits
 
@@ -70,16 +71,6 @@ unfolding applied linesBy
 line-after k S [] G p = refl
 line-after k S (e ∷ es) G p = line-after (edited k e) (Fits.steady-edit k S e (G .0)) es (G .1) p ∙ ap (linesBy (edited k e) es p) (line-edit k S e (G .0) p)
 
--- ---- who moves, edit by edit
-pub movers-then : (c : Move → Bool) (e : Edit) (es : List Edit) → movers c (e ∷ es) ≡ movers c (e ∷ []) ++ movers c es
-unfolding movers
-movers-then c e es = ap (λ (l : List ℕ). l ++ movers c es) (sym (append-nil (mover c e)))
-
-pub movers-append : (c : Move → Bool) (es fs : List Edit) → movers c (es ++ fs) ≡ movers c es ++ movers c fs
-unfolding movers
-movers-append c [] fs = refl
-movers-append c (e ∷ es) fs = ap (λ (l : List ℕ). mover c e ++ l) (movers-append c es fs) ∙ sym (append-assoc (mover c e) (movers c es) (movers c fs))
-
 -- ---- tests of edits
 -- nobody begins to wait
 unfoldable pub unstartedb : Edit → Bool
@@ -98,23 +89,6 @@ unrankedb p (counts t) = true
 unrankedb p (ranks d n) = not (sameb p (placeOf d n))
 unrankedb p (stores d n x) = true
 unrankedb p (sets c) = true
-
-pub all-first : (f : Edit → Bool) (e : Edit) (es : List Edit) → allb f (e ∷ es) ≡ true → f e ≡ true
-unfolding allb
-all-first f e es a = and-left (f e) (allb f es) a
-
-pub all-rest : (f : Edit → Bool) (e : Edit) (es : List Edit) → allb f (e ∷ es) ≡ true → allb f es ≡ true
-unfolding allb
-all-rest f e es a = and-right (f e) (allb f es) a
-
-pub all-append : (f : Edit → Bool) (es fs : List Edit) → allb f es ≡ true → allb f fs ≡ true → allb f (es ++ fs) ≡ true
-unfolding allb
-all-append f [] fs a b = b
-all-append f (e ∷ es) fs a b = and-in (f e) (allb f (es ++ fs)) (and-left (f e) (allb f es) a) (all-append f es fs (and-right (f e) (allb f es) a) b)
-
-pub not-no : (b : Bool) → not b ≡ true → b ≡ false
-not-no true e = sym e
-not-no false e = refl
 
 -- ---- waiters
 module _ (p : Place) (waiters : 4 < p .state) where
@@ -150,18 +124,18 @@ module _ (p : Place) (waiters : 4 < p .state) where
   -- one edit
   waiters-edit : (k : Kernel) → Steady (k .scheduler) → (e : Edit) → Fits.Requires k e → unstartedb e ≡ true → unrankedb p e ≡ true
       → lineAt (edited k e .scheduler) p ≡ less (movers (leavesb p) (e ∷ [])) (lineAt (k .scheduler) p)
-  unfolding lineBy movers unstartedb unrankedb
+  unfolding lineBy gathered unstartedb unrankedb
   waiters-edit k S (moves t m) G u r =
-      let n = not-no (startsb m) u in
+      let n = not-true (startsb m) u in
       line-edit k S (moves t m) G p ∙ rw (behind m n, unplaced k t m G n) (append-nil (without t (lineAt (k .scheduler) p)) ∙ left k S t m (G .was) ∙ ap (λ (ts : List ℕ). less ts (lineAt (k .scheduler) p)) (sym (append-nil (onlyIf (leavesb p m) t))))
   waiters-edit k S (alters t f) G u r = line-edit k S (alters t f) G p ∙ sym (Less.less-none (lineAt (k .scheduler) p))
   waiters-edit k S (counts t) G u r = line-edit k S (counts t) G p ∙ sym (Less.less-none (lineAt (k .scheduler) p))
-  waiters-edit k S (ranks d n) G u r = line-edit k S (ranks d n) G p ∙ rw (not-no (sameb p (placeOf d n)) r) (sym (Less.less-none (lineAt (k .scheduler) p)))
+  waiters-edit k S (ranks d n) G u r = line-edit k S (ranks d n) G p ∙ rw (not-true (sameb p (placeOf d n)) r) (sym (Less.less-none (lineAt (k .scheduler) p)))
   waiters-edit k S (stores d n x) G u r = line-edit k S (stores d n x) G p ∙ sym (Less.less-none (lineAt (k .scheduler) p))
   waiters-edit k S (sets c) G u r = line-edit k S (sets c) G p ∙ sym (Less.less-none (lineAt (k .scheduler) p))
 
   nobody-left : (k : Kernel) → lineAt (k .scheduler) p ≡ less (movers (leavesb p) []) (lineAt (k .scheduler) p)
-  unfolding movers
+  unfolding gathered
   nobody-left k = sym (Less.less-none (lineAt (k .scheduler) p))
 
   -- a line of waiters after edits that begin no wait and do not rank it: those who left it for a cause of that place are gone
@@ -170,7 +144,7 @@ module _ (p : Place) (waiters : 4 < p .state) where
   unfolding applied
   waiters-after k S [] G u r = nobody-left k
   waiters-after k S (e ∷ es) G u r =
-      waiters-after (edited k e) (Fits.steady-edit k S e (G .0)) es (G .1) (all-rest unstartedb e es u) (all-rest (unrankedb p) e es r)
-      ∙ ap (less (movers (leavesb p) es)) (waiters-edit k S e (G .0) (all-first unstartedb e es u) (all-first (unrankedb p) e es r))
+      waiters-after (edited k e) (Fits.steady-edit k S e (G .0)) es (G .1) (Edits.all-rest unstartedb e es u) (Edits.all-rest (unrankedb p) e es r)
+      ∙ ap (less (movers (leavesb p) es)) (waiters-edit k S e (G .0) (Edits.all-first unstartedb e es u) (Edits.all-first (unrankedb p) e es r))
       ∙ Less.less-less (movers (leavesb p) (e ∷ [])) (movers (leavesb p) es) (lineAt (k .scheduler) p)
-      ∙ ap (λ (ts : List ℕ). less ts (lineAt (k .scheduler) p)) (sym (movers-then (leavesb p) e es))
+      ∙ ap (λ (ts : List ℕ). less ts (lineAt (k .scheduler) p)) (sym (Edits.gathered-then (mover (leavesb p)) e es))

@@ -14,10 +14,10 @@ use Rattle.calls.specs.declared.call.Decoded.the-variants.{Known, Unknown}
 use Rattle.kernel.specs.declared.Kernel.{Kernel}
 use Rattle.kernel.specs.Tables.{runnerOf}
 use Rattle.kernel.specs.Answers.{Outcome, refused}
-use Rattle.kernel.specs.General.{service, byCaller, byRecord, step}
+use Rattle.kernel.specs.General.{reasonOf, effectOf, service, byCaller, byRecord, step}
 use Rattle.kernel.specs.Claims.{doneb, Unchanged}
 use Rattle.kernel.specs.Sound.{Sound}
-use Rattle.kernel.specs.Roles.{kindOf, limitOf}
+use Rattle.kernel.specs.Roles.{limitOf}
 use Rattle.kernel.proofs.Laws.Does
 use Rattle.kernel.proofs.Laws.Calls.Threads
 use Rattle.kernel.proofs.Laws.Calls.Clock
@@ -29,7 +29,7 @@ use Rattle.kernel.proofs.Laws.Calls.Pools
 module _ (k : Kernel) (caller a b c d : ℕ) (messages : List ℕ) where
   -- a known call of number n does what its theorem says
   abbrev By : ℕ → Decoded → Type 0
-  By n (Known call) = Does.Does k caller n (min a (limitOf n)) b c messages (service k caller call messages)
+  By n (Known call) = Does.Does k caller n (min a (limitOf n)) b c messages (reasonOf k caller call messages) (effectOf k call messages)
   By n Unknown = Unit {0}
 
   -- the call of number m, or another
@@ -38,7 +38,7 @@ module _ (k : Kernel) (caller a b c d : ℕ) (messages : List ℕ) where
 
   -- the calls one by one: the only place in these laws that goes through all of them
   known-does : (n : ℕ) → By n (knownCall n a b c d)
-  unfolding knownCall service limitOf kindOf
+  unfolding knownCall reasonOf effectOf limitOf
   known-does n =
       or-else n 1 _ _ (Threads.create-does k b c messages caller (min a 32) b c d) (
       or-else n 2 _ _ (Threads.delete-does k b c messages caller (min a 32)) (
@@ -92,11 +92,11 @@ runner-there k caller e c = ltb-true (runnerOf k) 32 (not-false (ltb (runnerOf k
 -- ---- any call
 module _ (k : Kernel) (n caller a b c d : ℕ) (messages : List ℕ) where
   record-does : Sound k → (x : Decoded) → By k caller a b c d messages n x → Does.Step k n (min a (limitOf n)) b c messages (byRecord k caller x messages)
-  unfolding byRecord byCaller
+  unfolding byRecord byCaller service
   record-does S (Known call) D =
       by-choice (Does.Step k n (min a (limitOf n)) b c messages) (eqb caller 2 && not (ltb (runnerOf k) 32)) (refused k Statuses.nobodyRuns) (service k caller call messages)
       (λ e. Does.refuses Statuses.nobodyRuns refl refl)
-      (λ e. Does.step-of k S caller n (min a (limitOf n)) b c messages (service k caller call messages) (runner-there k caller e) D)
+      (λ e. Does.step-of k S caller n (min a (limitOf n)) b c messages (reasonOf k caller call messages) (effectOf k call messages) (runner-there k caller e) D)
   record-does S Unknown D = Does.refuses Statuses.unknownCall refl refl
 
   -- on sound tables a call is refused, or carries out a proper effect
@@ -104,15 +104,14 @@ module _ (k : Kernel) (n caller a b c d : ℕ) (messages : List ℕ) where
   unfolding step
   step-does S = record-does S (decoded n caller a b c d) (decoded-does k caller a b c d messages n)
 
-  record-refused : (x : Decoded) → By k caller a b c d messages n x → doneb (byRecord k caller x messages .status) ≡ false → Unchanged k (byRecord k caller x messages)
-  unfolding byRecord byCaller refused
-  record-refused (Known call) D =
+  record-refused : (x : Decoded) → doneb (byRecord k caller x messages .status) ≡ false → Unchanged k (byRecord k caller x messages)
+  unfolding byRecord byCaller service refused
+  record-refused (Known call) =
       by-choice (λ (o : Outcome). doneb (o .status) ≡ false → Unchanged k o) (eqb caller 2 && not (ltb (runnerOf k) 32)) (refused k Statuses.nobodyRuns) (service k caller call messages)
-      (λ e u. record { kernel = refl; words = refl; ended = refl })
-      (λ e u. Does.does-refused k caller n (min a (limitOf n)) b c messages (service k caller call messages) D u)
-  record-refused Unknown D = λ u. record { kernel = refl; words = refl; ended = refl }
+      (λ e u. record { kernel = refl; words = refl; ended = refl }) (λ e. Does.guarded-refused k (reasonOf k caller call messages) (effectOf k call messages))
+  record-refused Unknown = λ u. record { kernel = refl; words = refl; ended = refl }
 
   -- on any tables a refused call changes nothing
   pub step-refused : doneb (step k n caller a b c d messages .status) ≡ false → Unchanged k (step k n caller a b c d messages)
   unfolding step
-  step-refused u = record-refused (decoded n caller a b c d) (decoded-does k caller a b c d messages n) u
+  step-refused = record-refused (decoded n caller a b c d)

@@ -1,38 +1,40 @@
--- What the calls of objects share, for every kind: who waits there, who is first, and the effects that close, serve and store.
-use mathlib.Core.Path.{_≡_, refl, ap, _∙_}
+-- What the calls of objects share, for every kind: who waits there, who is first, and the effects that close, give, take and store.
+use mathlib.Core.Path.{_≡_, refl, sym, ap, _∙_}
 use mathlib.Core.List.{List, [], _∷_}
 use mathlib.Core.Bool.{Bool, true, false, _&&_, _||_, not}
 use Prim.Native.Nat.{ℕ, _<_}
 use native.Mathlib.Omega.{arith}
 use lib.Dec.{eqb, ltb}
-use borrow.Author.Tests.{eqb-true, eq-eqb, ne-eqb, lt-ltb, ltb-true, not-true}
-use Rattle.lines.specs.Logic.{oneIf}
+use borrow.Author.Tests.{eqb-true, eq-eqb, ne-eqb, lt-ltb, ltb-true, ltb-false, not-true}
+use Rattle.lines.specs.Logic.{oneIf, implies}
 use Rattle.lines.specs.Lists.{count}
-use Rattle.lines.proofs.Laws.Logic.{by-test, never, and-left, and-right, and-in}
+use Rattle.lines.proofs.Laws.Logic.{by-test, by-choice, never, and-left, and-right, and-in}
 use Rattle.scheduler.specs.declared.thread.Thread.{Thread}
 use Rattle.scheduler.specs.Threads.{readyb, waitsb, standsb, numberOf, placedb}
-use Rattle.scheduler.specs.Orders.{lineAt, firstAt, prioritisedAt}
+use Rattle.scheduler.specs.Orders.{lineAt, firstAt}
 use Rattle.scheduler.proofs.Laws.Orders
 use Rattle.scheduler.proofs.Laws.States
 use Rattle.scheduler.proofs.Laws.Fairness.{first-placed}
-use Rattle.calls.specs.Held.{noWords}
+use Rattle.calls.specs.declared.held.Held.{Held}
+use Rattle.calls.specs.Held.{noWords, waiting}
 use Rattle.calls.specs.Statuses as Statuses
 use Rattle.calls.specs.Refusals.{unless, firstOf}
-use Rattle.waiting.specs.Fit.{waitsOnb}
+use Rattle.waiting.specs.Fit.{waitsOnb, heldFitb, semaphoreWaitb, poolWaitb}
+use Rattle.waiting.proofs.Laws.Held
 use Rattle.kernel.specs.declared.Kernel.{Kernel}
-use Rattle.kernel.specs.Tables.{threadOf, heldAt, withScheduler}
-use Rattle.kernel.specs.Answers.{carried, guarded}
-use Rattle.kernel.specs.Waits.{endEach}
-use Rattle.kernel.specs.Sound.{Sound}
-use Rattle.kernel.proofs.Laws.Answers.{second-none}
-use Rattle.kernel.specs.Kinds.{Kind, Object, sizeOf, stateOn, placeOf, objectAt, withObject, noObject, createdb, objectFitb, waitb}
-use Rattle.kernel.specs.Sound.{Fit}
-use Rattle.kernel.specs.Edits.{Cause, statusBy, statusOf, movers, edited, applied, carriedOut}
+use Rattle.kernel.specs.Tables.{threadOf, runnerOf, heldAt}
+use Rattle.kernel.specs.Sound.{Fit, Sound}
+use Rattle.kernel.specs.Kinds.{Kind, Object, sizeOf, stateOn, placeOf, objectAt, noObject, createdb, objectFitb, waitb}
+use Rattle.kernel.specs.Kinds.Kind.{semaphore, queue, group, pool}
+use Rattle.kernel.specs.Edits.{Cause, Effect}
 use Rattle.kernel.specs.Edits.Cause.{served, deleted}
 use Rattle.kernel.specs.Edits.Move.{ends}
-use Rattle.kernel.specs.Edits.Edit.{stores}
-use Rattle.kernel.specs.Roles.{rowOf, oneOf, kindOf, mayMoveb, mayb}
-use Rattle.kernel.specs.Effects.{does, closeEffect, rankEffect, serveEffect, waitedb, newOf, Taker}
+use Rattle.kernel.specs.Edits.Edit.{ranks, stores}
+use Rattle.kernel.specs.Edits.Success.{done, waits}
+use Rattle.kernel.specs.Roles.{mayMoveb, mayb}
+use Rattle.kernel.specs.Effects.{storeEffect, closeEffect, removeEffect, rankEffect, serveEffect, giveEffect, takeEffect, waitedb, amountOf, oneLess}
+use Rattle.kernel.specs.Uses.{Taker, countedb, newOf, oneGiven, mayGiveb, givenWords, Creates, Takes, Gives}
+use Rattle.kernel.proofs.Laws.Answers.{second-none, unless-none}
 use Rattle.kernel.proofs.Laws.Objects
 use Rattle.kernel.proofs.Laws.Fits
 use Rattle.kernel.proofs.Laws.Changes
@@ -118,54 +120,92 @@ module _ (d : Kind) (k : Kernel) (F : Fit k) (i : ℕ) where
       })
       m s
 
+  -- something is given: the first in line is served, or it is stored
+  pub give-proper : (number a : ℕ) (words : List ℕ) (x : Object d) → i < sizeOf d → objectFitb d x ≡ true → mayMoveb number a first (ends (served d i) words) ≡ true → mayb number a (stores d i x) ≡ true
+      → Does.Proper k number a (giveEffect d i k words x)
+  unfolding giveEffect storeEffect
+  give-proper number a words x small fit m s =
+      by-choice (Does.Proper k number a) (waitedb k d i) _ _
+      (λ q. serve-proper number a words q m)
+      (λ q. Effects.proper-store k F number a d i x noWords (record { small = small; fit = fit; free = λ t l. nobody-waits q t }) s)
+
 -- ---- calls that are alike for every kind: create, delete, prioritise
-module _ (k : Kernel) (b c : ℕ) (messages : List ℕ) (caller number n : ℕ) where
-  abbrev kind : Kind
-  kind = kindOf number
-
-  may-store : oneOf number (rowOf kind .creates) ≡ true → (x : Object kind) → mayb number n (stores kind n x) ≡ true
-  unfolding mayb
-  may-store e x = rw (e, eq-eqb n n refl) refl
-
-  may-delete : oneOf number (rowOf kind .deletes) ≡ true → (x : Object kind) → mayb number n (stores kind n x) ≡ true
-  unfolding mayb
-  may-delete e x = rw (e, eq-eqb n n refl) (some (oneOf number (rowOf kind .creates)))
-    where
-      some : (v : Bool) → (true && (v || true || oneOf number (rowOf kind .takes) || oneOf number (rowOf kind .gives) || oneOf number (rowOf kind .empties))) ≡ true
-      some true = refl
-      some false = refl
-
+module _ (k : Kernel) (b c : ℕ) (messages : List ℕ) (caller number n : ℕ) (d : Kind) where
   -- a new object has a fit record, and its number is free
-  pub create-does : (status rest : ℕ) → 0 < status → oneOf number (rowOf kind .creates) ≡ true → oneOf number Effects.named ≡ false → oneOf number (rowOf kind .takes) ≡ false → oneOf number (rowOf kind .gives) ≡ false → oneOf number (rowOf kind .empties) ≡ false
-      → (rest ≡ 0 → objectFitb kind (newOf kind b c) ≡ true)
-      → Does.Does k caller number n b c messages (guarded k (firstOf (unless (ltb n (sizeOf kind) && not (createdb kind (objectAt kind k n))) status) rest) (carried (withObject kind k n (newOf kind b c)) 0 noWords []))
-  unfolding carried carriedOut applied edited movers statusOf
-  create-does status rest pos is other noTake noGive noEmpty fit =
-      record {
-        reason = firstOf (unless (ltb n (sizeOf kind) && not (createdb kind (objectAt kind k n))) status) rest;
-        effect = does (stores kind n (newOf kind b c) ∷ []);
-        is = refl;
-        proper = λ S runs z. Effects.proper-store k (S .fit) number n kind n (newOf kind b c) noWords (stored S z) (may-store is (newOf kind b c));
-        role = λ S z. Effects.create-role k number n b c messages _ other noTake noGive noEmpty (not-true _ (and-right (ltb n (sizeOf kind)) _ (Effects.is-true _ status rest pos z))) (stored S z .small) refl;
-      }
-    where
-      stored : Sound k → firstOf (unless (ltb n (sizeOf kind) && not (createdb kind (objectAt kind k n))) status) rest ≡ 0 → Fits.Stored kind k n (newOf kind b c)
-      stored S z = new-stored kind k (S .fit) n (newOf kind b c) (Effects.is-true _ status rest pos z) (fit (second-none _ rest z))
+  module _ (S : Sound k) (status rest : ℕ) (pos : 0 < status) (z : firstOf (unless (ltb n (sizeOf d) && not (createdb d (objectAt d k n))) status) rest ≡ 0) where
+    new : (ltb n (sizeOf d) && not (createdb d (objectAt d k n))) ≡ true
+    new = Effects.is-true _ status rest pos z
+
+    pub create-proper : (rest ≡ 0 → objectFitb d (newOf d b c) ≡ true) → mayb number n (stores d n (newOf d b c)) ≡ true → Does.Proper k number n (storeEffect d n (newOf d b c))
+    unfolding storeEffect
+    create-proper fit m = Effects.proper-store k (S .fit) number n d n (newOf d b c) noWords (new-stored d k (S .fit) n (newOf d b c) new (fit (second-none _ rest z))) m
+
+    pub creates : Creates d k n b c (storeEffect d n (newOf d b c))
+    unfolding storeEffect
+    creates = record { free = not-true _ (and-right (ltb n (sizeOf d)) _ new); small = ltb-true n (sizeOf d) (and-left (ltb n (sizeOf d)) _ new); stored = refl }
 
   -- the waiters get 0x01 in line order, the record is zero
-  pub delete-does : (status rest : ℕ) → 0 < status → oneOf number (Effects.roles number) ≡ false → oneOf number (rowOf kind .deletes) ≡ true → objectFitb kind (noObject kind) ≡ true
-      → Does.Does k caller number n b c messages (guarded k (firstOf (unless (createdb kind (objectAt kind k n)) status) rest)
-      (carried (withObject kind (endEach k Statuses.deleted noWords (lineAt (k .scheduler) (placeOf kind n))) n (noObject kind)) 0 noWords (lineAt (k .scheduler) (placeOf kind n))))
-  unfolding statusBy mayMoveb closeEffect
-  delete-does status rest pos none is fit =
-      Effects.plain-does k b c messages caller number n _ none _ (closeEffect (deleted kind n) kind n (noObject kind) k)
-      (ap (guarded k _) (Effects.carries-each (deleted kind n) noWords Statuses.deleted (λ th h. refl) kind n (noObject kind) k noWords _))
-      (λ S runs z. let F = S .fit in
-      close-proper kind k F n number n (deleted kind n) (noObject kind) (λ th p. p) (Objects.object-small kind k F n (Effects.is-true _ status rest pos z)) fit
-      (λ t. rw (is, eq-eqb n n refl) refl) (may-delete is (noObject kind)))
+  pub delete-proper : Sound k → (status rest : ℕ) → 0 < status → firstOf (unless (createdb d (objectAt d k n)) status) rest ≡ 0 → objectFitb d (noObject d) ≡ true
+      → ((t : ℕ) → mayMoveb number n t (ends (deleted d n) noWords) ≡ true) → mayb number n (stores d n (noObject d)) ≡ true → Does.Proper k number n (removeEffect k d n)
+  delete-proper S status rest pos z fit m s =
+      close-proper d k (S .fit) n number n (deleted d n) (noObject d) (λ th p. p) (Objects.object-small d k (S .fit) n (Effects.is-true _ status rest pos z)) fit m s
 
-  pub prioritize-does : (reason : ℕ) → oneOf number (Effects.roles number) ≡ false → oneOf number (rowOf kind .prioritises) ≡ true
-      → Does.Does k caller number n b c messages (guarded k reason (carried (withScheduler k (prioritisedAt (k .scheduler) (placeOf kind n))) 0 noWords []))
-  unfolding carried carriedOut applied edited movers statusOf mayb rankEffect
-  prioritize-does reason none is =
-      Effects.plain-does k b c messages caller number n _ none reason (rankEffect kind n) refl (λ S runs z. Effects.proper-rank k (S .fit) number n kind n (rw (is, eq-eqb n n refl) refl))
+  pub prioritize-proper : Sound k → mayb number n (ranks d n) ≡ true → Does.Proper k number n (rankEffect d n)
+  unfolding rankEffect
+  prioritize-proper S m = Effects.proper-rank k (S .fit) number n d n m
+
+-- ---- calls that take from an object with an account: one at once, or the caller waits
+module _ (k : Kernel) (caller number n : ℕ) (d : Kind) (counted : countedb d ≡ true) (wait : ℕ) (words : List ℕ) where
+  abbrev x : Object d
+  x = objectAt d k n
+
+  -- whoever waits, waits where there is nothing to take
+  waits-none : (c : Kind) → countedb c ≡ true → (h : Held) (y : Object c) → waitb c h y ≡ (createdb c y && eqb (amountOf c y) 0)
+  unfolding semaphoreWaitb poolWaitb
+  waits-none semaphore e h y = refl
+  waits-none queue e h y = never e refl
+  waits-none group e h y = never e refl
+  waits-none pool e h y = refl
+
+  holds : (c : Kind) → countedb c ≡ true → (th : Thread) → th .created ≡ true → th .state ≡ stateOn c → heldFitb th waiting ≡ true
+  holds semaphore y th m e = Held.held-waiting th m (omega (arith, e)) (λ z. omega (arith, e, z)) (λ z. omega (arith, e, z))
+  holds queue y th m e = never y refl
+  holds group y th m e = never y refl
+  holds pool y th m e = Held.held-waiting th m (omega (arith, e)) (λ z. omega (arith, e, z)) (λ z. omega (arith, e, z))
+
+  abbrev reason : ℕ → ℕ → ℕ
+  reason status none = firstOf (unless (createdb d x) status) (firstOf (unless (eqb wait 0 || eqb caller 2) Statuses.waitError) (unless (ltb 0 wait || ltb 0 (amountOf d x)) none))
+
+  module _ (S : Sound k) where
+    pub take-proper : (eqb caller 2 ≡ true → runnerOf k < 32) → (status none : ℕ) → 0 < status → 0 < none → reason status none ≡ 0 → (createdb d x ≡ true → objectFitb d (oneLess d x) ≡ true) → mayb number n (stores d n (oneLess d x)) ≡ true
+        → Does.Proper k number n (takeEffect d n k words wait)
+    unfolding takeEffect mayMoveb implies
+    take-proper runs status none pos some z fit m =
+        let made = Effects.is-true _ status _ pos z in
+        let may = Effects.is-true _ Statuses.waitError _ (omega arith) (second-none _ _ z) in
+        let w = unless-none _ none some (second-none _ _ (second-none _ _ z)) in
+        by-choice (Does.Proper k number n) (ltb 0 (amountOf d x)) _ _
+        (λ q. let l = ltb-true 0 (amountOf d x) q in
+        Effects.proper-store k (S .fit) number n d n _ words
+        (record {
+          small = Objects.object-small d k (S .fit) n made;
+          fit = fit made;
+          free = λ t. Objects.waits-not d k (S .fit) n t (waits-none d counted (heldAt k t) x ∙ rw (made, ne-eqb (amountOf d x) 0 (λ y. omega (arith, l, y))));
+        }) m)
+        (λ q. let l = ltb-false 0 (amountOf d x) q in
+        let v = Effects.waiter-runs k caller wait runs may (ltb 0 (amountOf d x)) w q in
+        Effects.proper-wait k (S .fit) number n S (v .1) d false n wait waiting (v .0) (holds d counted) (waits-none d counted waiting x ∙ and-in (createdb d x) _ made (eq-eqb (amountOf d x) 0 (omega (arith, l)))) refl)
+
+    pub takes : Takes d k n (takeEffect d n k words wait)
+    unfolding takeEffect
+    takes =
+        record {
+          served = λ a. by-choice (λ (e : Effect). e .success ≡ done → (0 < amountOf d x) × (e .edits ≡ stores d n (oneLess d x) ∷ [])) (ltb 0 (amountOf d x)) _ _ (λ q s. (ltb-true 0 (amountOf d x) q, refl)) (λ q s. Does.waits-not-done s);
+          waits = λ a t T. (let none = eqb-true (amountOf d x) 0 (and-right (createdb d x) _ (sym (waits-none d counted (heldAt k t) x) ∙ taker-may d k (S .fit) n t T)) in
+              by-choice (λ (e : Effect). e .success ≡ waits) (ltb 0 (amountOf d x)) _ _ (λ q. absurd (let l = ltb-true 0 (amountOf d x) q in omega (arith, l, none))) (λ q. refl));
+        }
+
+    -- and those that give to it
+    pub gives : (b c : ℕ) (messages : List ℕ) → mayGiveb d x b ≡ true → Gives d k n b c messages (giveEffect d n k (givenWords d k n b c messages) (oneGiven d x b))
+    unfolding giveEffect serveEffect storeEffect
+    gives b c messages may = record { first = λ a t T. rw (taker-waited d k (S .fit) n t T) refl; stored = λ a q. rw q refl; may = may }

@@ -1,107 +1,128 @@
--- Laws of ending several waits.
+-- Laws of ending several waits and of ticks, as loops go: one thread more.
 use mathlib.Core.Path.{_≡_, refl, sym, ap, _∙_}
-use mathlib.Core.List.{List, [], _∷_, _++_}
+use mathlib.Core.List.{List, [], _∷_, _++_, append-nil}
 use mathlib.Core.Bool.{Bool, true, false, _&&_}
-use Prim.Native.Nat.{ℕ, zero, suc, _+_, _-_, _<_, _≤_}
+use Prim.Native.Nat.{ℕ, zero, suc, _+_, _<_, _≤_}
 use native.Mathlib.Omega.{arith}
 use native.Mathlib.Numerals.{add-one}
 use lib.ListN.{length, take, getD, length-append, length-set}
 use lib.Seq.{getD-set-other}
-use lib.Dec.{ltb}
-use borrow.Author.Tests.{ltb-false}
-use Rattle.lines.specs.Logic.{if_then_else_, oneIf}
+use Rattle.lines.specs.Logic.{oneIf}
 use Rattle.lines.specs.Lists.{onlyIf}
-use Rattle.lines.proofs.Laws.Logic.{by-choice}
+use Rattle.lines.proofs.Laws.Logic.{by-test, by-choice}
 use Rattle.lines.proofs.Laws.Lines.{take-one}
 use Rattle.scheduler.specs.declared.Scheduler.{Scheduler}
 use Rattle.scheduler.specs.declared.thread.Thread.{Thread}
 use Rattle.scheduler.specs.Threads.{noThread, awake}
-use Rattle.scheduler.specs.Orders.{threadAt, withThread, withOrder, moved, woken}
+use Rattle.scheduler.specs.Orders.{threadAt, withThread, withOrder, moved, joined, woken}
+use Rattle.scheduler.specs.Choice.{rescheduled}
 use Rattle.calls.specs.Held.{noWords, holding}
+use Rattle.waiting.specs.Ticks.{timedb, lastTickb}
 use Rattle.kernel.specs.declared.Kernel.{Kernel}
 use Rattle.kernel.specs.Tables.{threadOf, heldAt, withScheduler, withHeld, withSemaphore, withQueue, withGroup, withPool}
-use Rattle.waiting.specs.Ticks.{timedb, timeoutStatus, withTicks, lastTickb}
 use Rattle.kernel.specs.Kinds.{Kind, Object, withObject}
+use Rattle.kernel.specs.Edits.{Cause, Move, Edit, Holds, recordBy, heldBy, frontb, endsb, mover, movers, gathered, edited, applied, statusOf, carriedOut}
+use Rattle.kernel.specs.Edits.Cause.{timedOut}
+use Rattle.kernel.specs.Edits.Move.{ends}
+use Rattle.kernel.specs.Edits.Edit.{moves, counts, stores}
+use Rattle.kernel.specs.Edits.Success.{done}
+use Rattle.kernel.specs.Effects.{does, endsEach}
+use Rattle.kernel.specs.Clock.{tickOf, ticksBelow}
 use Rattle.kernel.proofs.Laws.Objects.{by-kind}
-use Rattle.kernel.specs.Waits.{endWait, endEach, tickOne, tickBelow, timedOut}
+use Rattle.kernel.proofs.Laws.Edits
 
--- one more at the end of the list
-each-last : (k : Kernel) (status : ℕ) (words xs : List ℕ) (t : ℕ) → endEach k status words (xs ++ (t ∷ [])) ≡ endWait (endEach k status words xs) t status words
-unfolding endEach
-each-last k status words [] t = refl
-each-last k status words (x ∷ xs) t = each-last (endWait k x status words) status words xs t
+-- ---- the waits of several end for one cause
+module _ (c : Cause) (words : List ℕ) where
+  each-last : (k : Kernel) (xs : List ℕ) (t : ℕ) → applied k (endsEach c words (xs ++ (t ∷ []))) ≡ edited (applied k (endsEach c words xs)) (moves t (ends c words))
+  unfolding applied endsEach
+  each-last k [] t = refl
+  each-last k (x ∷ xs) t = each-last (edited k (moves x (ends c words))) xs t
 
--- one slot more of a line
-pub each-more : (k : Kernel) (status : ℕ) (words xs : List ℕ) (i : ℕ) → i < length xs → endEach k status words (take (i + 1) xs) ≡ endWait (endEach k status words (take i xs)) (getD xs i 0) status words
-each-more k status words xs i h = ap (endEach k status words) (take-one xs i h) ∙ each-last k status words (take i xs) (getD xs i 0)
+  -- one slot more of a line, in a loop that keeps the scheduler beside the tables
+  pub each-step : (k self : Kernel) (s : Scheduler) (status : ℕ) (xs : List ℕ) (i : ℕ) → Holds c status → i < length xs → withScheduler self s ≡ applied k (endsEach c words (take i xs))
+      → withHeld (withScheduler self (woken s (getD xs i 0))) (getD xs i 0) (holding status words) ≡ applied k (endsEach c words (take (i + 1) xs))
+  unfolding withScheduler withHeld edited recordBy heldBy frontb joined woken
+  each-step k self s status xs i same h e =
+      let x = getD xs i 0 in
+      sym (ap (λ (v : ℕ). withHeld (withScheduler self (woken s x)) x (holding v words)) (same (threadAt s x) (heldAt (withScheduler self s) x)))
+      ∙ ap (λ (u : Kernel). edited u (moves x (ends c words))) e
+      ∙ sym (ap (λ (l : List ℕ). applied k (endsEach c words l)) (take-one xs i h) ∙ each-last k (take i xs) x)
 
--- the same in a loop that keeps the scheduler beside the tables
-pub each-step : (k self : Kernel) (s : Scheduler) (status : ℕ) (words xs : List ℕ) (i : ℕ) → i < length xs → withScheduler self s ≡ endEach k status words (take i xs) → withHeld (withScheduler self (woken s (getD xs i 0))) (getD xs i 0) (holding status words) ≡ endEach k status words (take (i + 1) xs)
-unfolding withScheduler withHeld endWait
-each-step k self s status words xs i h e = ap (λ (u : Kernel). endWait u (getD xs i 0) status words) e ∙ sym (each-more k status words xs i h)
+  -- who moves: each of them
+  pub movers-each : (f : Move → Bool) (xs : List ℕ) → f (ends c words) ≡ true → movers f (endsEach c words xs) ≡ xs
+  unfolding gathered endsEach
+  movers-each f [] e = refl
+  movers-each f (t ∷ ts) e = rw e (ap (λ (l : List ℕ). t ∷ l) (movers-each f ts e))
 
--- a change that goes past the end of one wait goes past the end of several
-each-past : (f : Kernel → Kernel) (status : ℕ) (words : List ℕ) → ((k : Kernel) (t : ℕ) → endWait (f k) t status words ≡ f (endWait k t status words))
-    → (k : Kernel) (xs : List ℕ) → endEach (f k) status words xs ≡ f (endEach k status words xs)
-unfolding endEach
-each-past f status words h k [] = refl
-each-past f status words h k (x ∷ xs) = ap (λ (y : Kernel). endEach y status words xs) (h k x) ∙ each-past f status words h (endWait k x status words) xs
+  -- an object's record can be stored before or after
+  pub each-object : (d : Kind) (k : Kernel) (n : ℕ) (x : Object d) (xs : List ℕ) → applied (withObject d k n x) (endsEach c words xs) ≡ withObject d (applied k (endsEach c words xs)) n x
+  unfolding applied endsEach edited withHeld withScheduler heldAt withSemaphore withQueue withGroup withPool
+  each-object d k n x [] = refl
+  each-object d k n x (t ∷ ts) = ap (λ (y : Kernel). applied y (endsEach c words ts)) (past t) ∙ each-object d (edited k (moves t (ends c words))) n x ts
+    where
+      past : (t : ℕ) → edited (withObject d k n x) (moves t (ends c words)) ≡ withObject d (edited k (moves t (ends c words))) n x
+      past t = by-kind (λ b. (z : Object b) → edited (withObject b k n z) (moves t (ends c words)) ≡ withObject b (edited k (moves t (ends c words))) n z) (λ z. refl) (λ z. refl) (λ z. refl) (λ z. refl) d x
 
--- an object's record can be stored before or after
-pub each-object : (d : Kind) (k : Kernel) (n : ℕ) (x : Object d) (status : ℕ) (words xs : List ℕ) → endEach (withObject d k n x) status words xs ≡ withObject d (endEach k status words xs) n x
-unfolding endWait withHeld withScheduler withSemaphore withQueue withGroup withPool
-each-object d k n x status words xs =
-    each-past (λ y. withObject d y n x) status words
-    (λ y t. by-kind (λ c. (z : Object c) → endWait (withObject c y n z) t status words ≡ withObject c (endWait y t status words) n z) (λ z. refl) (λ z. refl) (λ z. refl) (λ z. refl) d x) k xs
+  -- so a call that stores first and then ends the waits has done as one that stores afterwards
+  pub closed : (d : Kind) (k : Kernel) (n : ℕ) (x : Object d) (xs : List ℕ) → carriedOut (withObject d k n x) (does (endsEach c words xs)) ≡ carriedOut k (does (endsEach c words xs ++ (stores d n x ∷ [])))
+  unfolding carriedOut applied edited gathered
+  closed d k n x xs =
+      let es = endsEach c words xs in
+      let p = each-object d k n x xs ∙ sym (Edits.applied-append k es (stores d n x ∷ [])) in
+      let q = sym (Edits.gathered-append (mover endsb) es (stores d n x ∷ []) ∙ append-nil (movers endsb es)) in
+      λ i. record { status = statusOf done; words = noWords; ended = q i; kernel = withScheduler (p i) (rescheduled (p i .scheduler) false) }
 
 -- ---- ticks
--- the tick of thread n leaves the others' records
-tick-other : (k : Kernel) (n u : ℕ) → (u ≡ n → ⊥) → threadOf (tickOne k n) u ≡ threadOf k u
-unfolding tickOne endWait withHeld withScheduler woken moved withOrder withThread threadAt
-tick-other k n u h =
-    by-choice (λ (x : Kernel). threadOf x u ≡ threadOf k u) (lastTickb (threadOf k n)) _ _
-    (λ e. getD-set-other (k .scheduler .threads) n u (awake (threadOf k n)) noThread h)
-    (λ e. by-choice (λ (x : Kernel). threadOf x u ≡ threadOf k u) (timedb (threadOf k n)) _ _
-    (λ f. getD-set-other (k .scheduler .threads) n u (withTicks (threadOf k n .ticks - 1) (threadOf k n)) noThread h)
-    (λ f. refl))
+-- by the three cases of a record
+module _ (k : Kernel) (n : ℕ) (th : Thread) where
+  pub tick-last : lastTickb th ≡ true → applied k (tickOf th n) ≡ edited k (moves n (ends timedOut noWords))
+  unfolding tickOf applied
+  tick-last e = rw e
+
+  pub tick-timed : lastTickb th ≡ false → timedb th ≡ true → applied k (tickOf th n) ≡ edited k (counts n)
+  unfolding tickOf applied
+  tick-timed e f = rw (e, f)
+
+  pub tick-none : lastTickb th ≡ false → timedb th ≡ false → applied k (tickOf th n) ≡ k
+  unfolding tickOf applied
+  tick-none e f = rw (e, f)
+
+  -- the tick of thread n leaves the others' records
+  tick-other : (u : ℕ) → (u ≡ n → ⊥) → threadOf (applied k (tickOf th n)) u ≡ threadOf k u
+  unfolding tickOf applied edited recordBy frontb joined withHeld withScheduler moved withOrder withThread threadAt
+  tick-other u h =
+      by-choice (λ (es : List Edit). threadOf (applied k es) u ≡ threadOf k u) (lastTickb th) _ _
+      (λ e. getD-set-other (k .scheduler .threads) n u _ noThread h)
+      (λ e. by-choice (λ (es : List Edit). threadOf (applied k es) u ≡ threadOf k u) (timedb th) _ _ (λ f. getD-set-other (k .scheduler .threads) n u _ noThread h) (λ f. refl))
+
+  -- whom it moves, in a way that counts: whose last tick it is
+  pub tick-movers : (c : Move → Bool) → c (ends timedOut noWords) ≡ true → movers c (tickOf th n) ≡ onlyIf (lastTickb th) n
+  unfolding gathered tickOf
+  tick-movers c y = by-test (lastTickb th) (λ e. rw (e, y)) (λ e. by-test (timedb th) (λ f. rw (e, f)) (λ f. rw (e, f)))
 
 -- threads from n on are as they were
-pub below-other : (k : Kernel) (n u : ℕ) → n ≤ u → threadOf (tickBelow n k) u ≡ threadOf k u
-unfolding tickBelow
+pub below-other : (k : Kernel) (n u : ℕ) → n ≤ u → threadOf (applied k (ticksBelow n k)) u ≡ threadOf k u
+unfolding ticksBelow applied
 below-other k zero u h = refl
-below-other k (suc n) u h = tick-other (tickBelow n k) n u (λ e. omega (arith, e, h)) ∙ below-other k n u (omega (arith, h))
+below-other k (suc n) u h =
+    ap (λ (x : Kernel). threadOf x u) (Edits.applied-append k (ticksBelow n k) (tickOf (threadOf k n) n))
+    ∙ tick-other (applied k (ticksBelow n k)) n (threadOf k n) u (λ e. omega (arith, e, h)) ∙ below-other k n u (omega (arith, h))
 
--- one thread more, by the three cases of its record
+-- one thread more
 module _ (k : Kernel) (n : ℕ) where
-  pub more-below : tickBelow (n + 1) k ≡ tickOne (tickBelow n k) n
-  unfolding tickBelow
-  more-below = rw add-one
+  abbrev x : Kernel
+  x = applied k (ticksBelow n k)
 
-  pub more-ended : length (timedOut (n + 1) k) ≡ length (timedOut n k) + oneIf (lastTickb (threadOf k n))
-  unfolding timedOut oneIf
-  more-ended = rw add-one (length-append (timedOut n k) (onlyIf (lastTickb (threadOf k n)) n) ∙ ap (λ (x : ℕ). length (timedOut n k) + x) (one (lastTickb (threadOf k n))))
-    where
-      one : (b : Bool) → length (onlyIf b n) ≡ (if b then 1 else 0)
-      one true = refl
-      one false = refl
+  pub more-below : applied k (ticksBelow (n + 1) k) ≡ applied x (tickOf (threadOf x n) n)
+  unfolding ticksBelow
+  more-below = rw (add-one, below-other k n n (omega arith)) (Edits.applied-append k (ticksBelow n k) (tickOf (threadOf k n) n))
 
-pub tick-last : (k : Kernel) (n : ℕ) → lastTickb (threadOf k n) ≡ true → tickOne k n ≡ endWait k n (timeoutStatus (threadOf k n) (heldAt k n)) noWords
-unfolding tickOne
-tick-last k n e = rw e
-
-pub tick-timed : (k : Kernel) (n : ℕ) → lastTickb (threadOf k n) ≡ false → timedb (threadOf k n) ≡ true
-    → tickOne k n ≡ withScheduler k (withThread (k .scheduler) n (withTicks (threadOf k n .ticks - 1) (threadOf k n)))
-unfolding tickOne
-tick-timed k n e f = rw (e, f)
-
-pub tick-none : (k : Kernel) (n : ℕ) → lastTickb (threadOf k n) ≡ false → timedb (threadOf k n) ≡ false → tickOne k n ≡ k
-unfolding tickOne
-tick-none k n e f = rw (e, f)
-
--- a timed wait that does not end has two ticks left
-pub ticks-left : (th : Thread) → lastTickb th ≡ false → timedb th ≡ true → 2 ≤ th .ticks
-unfolding lastTickb
-ticks-left th e f = ltb-false (th .ticks) 2 (sym (ap (λ (b : Bool). b && ltb (th .ticks) 2) f) ∙ e)
+  pub more-ended : length (movers endsb (ticksBelow (n + 1) k)) ≡ length (movers endsb (ticksBelow n k)) + oneIf (lastTickb (threadOf k n))
+  unfolding ticksBelow endsb oneIf
+  more-ended =
+      rw add-one (ap (λ (l : List ℕ). length l) (Edits.gathered-append (mover endsb) (ticksBelow n k) (tickOf (threadOf k n) n) ∙ ap (λ (l : List ℕ). movers endsb (ticksBelow n k) ++ l) (tick-movers k n (threadOf k n) endsb refl))
+      ∙ length-append (movers endsb (ticksBelow n k)) (onlyIf (lastTickb (threadOf k n)) n)
+      ∙ ap (λ (i : ℕ). length (movers endsb (ticksBelow n k)) + i) (by-test (lastTickb (threadOf k n)) (λ e. rw e) (λ e. rw e)))
 
 -- the table keeps its size
 pub woken-sized : (s : Scheduler) (t : ℕ) (r : Scheduler) → r ≡ woken s t → length (s .threads) ≡ 32 → length (r .threads) ≡ 32

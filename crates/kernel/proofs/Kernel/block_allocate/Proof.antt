@@ -1,3 +1,4 @@
+use Rattle.scheduler.specs.Orders.{joined}
 use borrow.Author.Needs.{needs}
 use mathlib.Core.Path.{_≡_, sym, ap, _∙_}
 use mathlib.Core.Logic.{⊎-elim}
@@ -9,9 +10,10 @@ use Rattle.blocks.specs.Pools.{nextBlock, withoutNext}
 use Rattle.calls.specs.Held.{waiting}
 use Rattle.calls.specs.Refusals.{allocateRefusal}
 use Rattle.kernel.specs.Tables.{poolAt, withScheduler, withHeld, withPool}
-use Rattle.kernel.specs.Answers.{answerOf, carried, answered}
-use Rattle.kernel.specs.Waits.{startWait}
-use Rattle.kernel.specs.Pools.{blockAllocate}
+use Rattle.kernel.specs.Answers.{answerOf, answered}
+use Rattle.kernel.specs.Edits.{recordBy, heldBy, frontb, edited, applied, gathered, endsb, statusOf, carriedOut, guarded}
+use Rattle.kernel.specs.Effects.{takeEffect}
+use Rattle.kernel.specs.Pools.{allocateEffect}
 use Rattle.kernel.proofs.Laws.Answers.{is-carried, held-out}
 use Rattle.kernel.proofs.Laws.Arms.{refused-by}
 use Rattle.kernel.proofs.Kernel.block_allocate.Statement.{statement}
@@ -29,7 +31,7 @@ module _ (k : tie.After-allocate) where
   reason = rw (← k .before .pool-in .ensures) (k .allocate .ensures)
 
 returns-2 : tie.Need-returns-2
-unfolding blockAllocate startWait answerOf carried answered withScheduler withHeld withPool poolAt
+unfolding carriedOut applied gathered statusOf answerOf answered withScheduler edited recordBy heldBy frontb endsb joined withHeld allocateEffect takeEffect withPool poolAt
 returns-2 c =
     let k = c .before .before .before .before in
     let a = k .before .before .before .before .args in
@@ -39,7 +41,7 @@ returns-2 c =
     c .before .before .has-free .ensures ∙ ap (λ (x : Pool). ltb 0 (x .free)) i in
     let l = held-sized (k .before .before .before .before) in
     let d = c .before .if2 in
-    let m : answered (d .self) (d .s) (d .status) (d .words) 0 ≡ answerOf (blockAllocate (a .t1) (a .caller) (a .n .0) (a .wait)) =
+    let m : answered (d .self) (d .s) (d .status) (d .words) 0 ≡ answerOf (guarded (a .t1) (allocateRefusal (poolAt (a .t1) (a .n .0)) (a .wait) (a .caller)) (allocateEffect (a .t1) (a .n .0) (a .wait))) =
     ⊎-elim
     (λ w. rw (w .5, w .6, w .7, w .8, is-carried, ← t, w .0 .taken, w .4 .ensures, w .2 .ensures, w .1 .ensures ∙ ap nextBlock i, w .3 .ensures ∙ ap withoutNext i))
     (λ w. ⊎-elim
@@ -52,7 +54,6 @@ returns-2 c =
     c .carried .ensures ∙ m
 
 pub block-allocate-spec : {M : Type 1} → statement M
-unfolding blockAllocate
 block-allocate-spec =
     tie.close
     (tie.spec

@@ -5,8 +5,9 @@ use Rattle.blocks.specs.Pools.{freshPool, blockSizesb}
 use Rattle.blocks.proofs.Laws.Pools.{block-half}
 use Rattle.calls.specs.Refusals.{poolCreateRefusal}
 use Rattle.kernel.specs.Tables.{poolAt, withScheduler, withPool}
-use Rattle.kernel.specs.Answers.{answerOf, carried, answered}
-use Rattle.kernel.specs.Pools.{poolCreate}
+use Rattle.kernel.specs.Answers.{answerOf, answered}
+use Rattle.kernel.specs.Edits.{edited, applied, gathered, statusOf, carriedOut}
+use Rattle.kernel.specs.Effects.{storeEffect}
 use Rattle.kernel.proofs.Laws.Answers.{is-carried, first-none, second-none, unless-none}
 use Rattle.kernel.proofs.Laws.Arms.{refused-by}
 use Rattle.kernel.proofs.Kernel.block_pool_create.Statement.{statement}
@@ -21,7 +22,7 @@ module _ (k : tie.After-pool-create) where
   reason = rw (← k .before .pool-in .ensures) (k .pool-create .ensures)
 
 returns-2 : tie.Need-returns-2
-unfolding poolCreate poolCreateRefusal answerOf carried answered withScheduler withPool poolAt
+unfolding carriedOut applied gathered statusOf answerOf answered withScheduler edited storeEffect poolCreateRefusal withPool poolAt
 returns-2 c =
     let k = c .before .before .before .before in
     let a = k .before .before .before .before .args in
@@ -32,7 +33,6 @@ returns-2 c =
     rw is-carried (c .carried .ensures ∙ rw (c .before .pools-with .ensures, x))
 
 pub block-pool-create-spec : {M : Type 1} → statement M
-unfolding poolCreate
 block-pool-create-spec =
     tie.close
     (tie.spec

@@ -2,8 +2,9 @@ use mathlib.Core.Path.{_≡_, sym, _∙_}
 use borrow.Author.Needs.{needs}
 use Rattle.calls.specs.Refusals.{poolRefusal}
 use Rattle.kernel.specs.Tables.{poolAt, withScheduler}
-use Rattle.kernel.specs.Answers.{answerOf, carried, answered}
-use Rattle.kernel.specs.Pools.{poolPrioritize}
+use Rattle.kernel.specs.Answers.{answerOf, answered}
+use Rattle.kernel.specs.Edits.{edited, applied, gathered, statusOf, carriedOut}
+use Rattle.kernel.specs.Effects.{rankEffect}
 use Rattle.kernel.proofs.Laws.Answers.{is-carried}
 use Rattle.kernel.proofs.Laws.Arms.{refused-by}
 use Rattle.kernel.proofs.Kernel.block_pool_prioritize.Statement.{statement}
@@ -16,14 +17,13 @@ module _ (k : tie.After-pool) where
   reason = rw (← k .before .pool-in .ensures) (k .pool .ensures)
 
 returns-2 : tie.Need-returns-2
-unfolding poolPrioritize answerOf carried answered withScheduler poolAt
+unfolding carriedOut applied gathered statusOf answerOf answered withScheduler edited rankEffect
 returns-2 c =
     let k = c .before .before .before .before in
     let z = sym (reason (k .before)) ∙ k .if1 .left in
     rw is-carried (c .carried .ensures ∙ rw (c .before .prioritised .ensures, c .before .before .place .ensures))
 
 pub block-pool-prioritize-spec : {M : Type 1} → statement M
-unfolding poolPrioritize
 block-pool-prioritize-spec =
     tie.close
     (tie.spec

@@ -1,3 +1,5 @@
+use Rattle.scheduler.specs.Orders.{joined}
+use Rattle.scheduler.specs.Orders.{woken}
 use borrow.Author.Needs.{needs}
 use mathlib.Core.Path.{_≡_, sym, ap, _∙_}
 use mathlib.Core.Logic.{⊎-elim}
@@ -9,9 +11,10 @@ use Rattle.calls.specs.Held.{noWords}
 use Rattle.calls.specs.Statuses.{success}
 use Rattle.calls.specs.Refusals.{releaseRefusal}
 use Rattle.kernel.specs.Tables.{poolAt, withScheduler, withHeld, withPool}
-use Rattle.kernel.specs.Answers.{answerOf, carried, answered}
-use Rattle.kernel.specs.Waits.{endWait}
-use Rattle.kernel.specs.Pools.{blockRelease}
+use Rattle.kernel.specs.Answers.{answerOf, answered}
+use Rattle.kernel.specs.Edits.{statusBy, recordBy, heldBy, frontb, edited, applied, gathered, endsb, statusOf, carriedOut, guarded}
+use Rattle.kernel.specs.Effects.{storeEffect, serveEffect, giveEffect}
+use Rattle.kernel.specs.Pools.{releaseEffect}
 use Rattle.kernel.proofs.Laws.Answers.{is-carried}
 use Rattle.kernel.proofs.Laws.Arms.{refused-by}
 use Rattle.kernel.proofs.Kernel.block_release.Statement.{statement}
@@ -24,7 +27,7 @@ module _ (k : tie.After-release) where
   reason = rw (← k .before .pool-in .ensures) (k .release .ensures)
 
 returns-2 : tie.Need-returns-2
-unfolding blockRelease endWait answerOf carried answered withHeld withScheduler withPool poolAt
+unfolding carriedOut applied gathered statusOf answerOf answered withScheduler edited recordBy heldBy frontb endsb joined withHeld statusBy woken releaseEffect giveEffect serveEffect storeEffect withPool poolAt
 returns-2 c =
     let k = c .before .before .before .before .before .before in
     let a = k .before .before .before .before .args in
@@ -33,7 +36,7 @@ returns-2 c =
     let first = c .before .before .before .first-at in
     let f = first .ensures ∙ ap (firstAt (a .t1 .scheduler)) (c .before .before .before .before .place .ensures) in
     let d = c .before .if2 in
-    let m : answered (d .self) (d .s) success noWords (d .ended) ≡ answerOf (blockRelease (a .t1) (a .n .0) (a .block)) =
+    let m : answered (d .self) (d .s) success noWords (d .ended) ≡ answerOf (guarded (a .t1) (releaseRefusal (poolAt (a .t1) (a .n .0)) (a .block)) (releaseEffect (a .t1) (a .n .0) (a .block))) =
     ⊎-elim
     (λ w. rw (w .4, w .5, w .6, is-carried, ← f, lt-ltb (first .result .0) 32 (w .0 .taken), w .3 .ensures, w .2 .ensures, w .1 .ensures))
     (λ w. rw (w .3, w .4, w .5, is-carried, ← f, le-ltb (first .result .0) 32 (w .0 .left), w .2 .ensures, w .1 .ensures ∙ ap (λ (x : Pool). withFree x (a .block)) i))
@@ -41,7 +44,6 @@ returns-2 c =
     c .carried .ensures ∙ m
 
 pub block-release-spec : {M : Type 1} → statement M
-unfolding blockRelease
 block-release-spec =
     tie.close
     (tie.spec

@@ -2,7 +2,7 @@ use mathlib.Core.Path.{_≡_, ap, _∙_}
 use borrow.Author.Needs.{needs}
 use Rattle.calls.specs.declared.call.Call.{Call}
 use Rattle.kernel.specs.Answers.{answerOf}
-use Rattle.kernel.specs.General.{service, step, unsound, call}
+use Rattle.kernel.specs.General.{reasonOf, effectOf, service, step, unsound, call}
 use Rattle.kernel.proofs.Laws.Arms.{on-unsound, on-sound, on-unknown, on-nobody, on-known}
 use Rattle.kernel.proofs.Kernel.call.Statement.{statement}
 use Rattle.kernel.proofs.Kernel.call.Tie as tie
@@ -32,7 +32,7 @@ module _ (k : tie.Else2) where
       ∙ sound (read .before .before .before)
 
 pub call-spec : {M : Type 1} → statement M
-unfolding service unsound
+unfolding service reasonOf effectOf unsound
 call-spec =
     tie.close
     (tie.spec

@@ -9,13 +9,13 @@ use Rattle.lines.proofs.Laws.Lines.{length-members, members-take}
 use Rattle.scheduler.specs.Orders.{woken}
 use Rattle.scheduler.proofs.Laws.Threads.{length-mapped}
 use Rattle.calls.specs.declared.held.Held.{Held}
-use Rattle.calls.specs.Held.{noWords, holding}
-use Rattle.kernel.specs.Tables.{withScheduler, withHeld}
-use Rattle.kernel.specs.Answers.{answerOf, carried, answered}
-use Rattle.kernel.specs.Waits.{endEach}
-use Rattle.kernel.proofs.Laws.Waits.{each-step}
-use Rattle.kernel.proofs.Laws.Answers.{held-out}
+use Rattle.calls.specs.Held.{holding}
 use lib.ListN.{length-set}
+use Rattle.kernel.specs.Tables.{withScheduler, withHeld}
+use Rattle.kernel.specs.Edits.{Cause, Holds, applied, endsb}
+use Rattle.kernel.specs.Effects.{endsEach}
+use Rattle.kernel.proofs.Laws.Waits.{each-step, movers-each}
+use Rattle.kernel.proofs.Laws.Answers.{held-out}
 use Rattle.kernel.proofs.Laws.Arms.{carried-as}
 use Rattle.kernel.proofs.Kernel.ended_each.Statement.{statement}
 use Rattle.kernel.proofs.Kernel.ended_each.Tie as tie
@@ -23,19 +23,19 @@ use Rattle.kernel.proofs.Kernel.ended_each.Tie as tie
 abbrev Inv-loop : tie.InvT-loop
 Inv-loop status self₀ ids n h s₀ i₀ self s i =
     (i ≤ n) × (n ≤ 32) × (length ids ≡ 32) × (length (self .held) ≡ 32)
-    × (withScheduler self s ≡ endEach (withScheduler self₀ s₀) status (h .words) (take i ids))
+    × ((by : Cause) → Holds by status → withScheduler self s ≡ applied (withScheduler self₀ s₀) (endsEach by (h .words) (take i ids)))
 
 abbrev μ-loop : tie.MeasureT-loop
 μ-loop status self₀ ids n h s₀ i₀ self s i = n - i
 
 loop-holds : tie.Need-loop-holds Inv-loop μ-loop
-unfolding endEach withScheduler
+unfolding applied endsEach withScheduler
 loop-holds c =
     let a = c .before .before .before .before .args in
     let z = c .before .before .size .ensures in
     let o : length (a .line .ids) ≡ 32 = search needs in
     let w = length-members (a .line) o in
-    (omega arith, omega (arith, z, w), o, search length-mapped, refl)
+    (omega arith, omega (arith, z, w), o, search length-mapped, λ by same. refl)
 
 -- ---- one wait more is ended
 module _ (k : tie.In-loop Inv-loop μ-loop) where
@@ -52,10 +52,10 @@ module _ (k : tie.In-loop Inv-loop μ-loop) where
   abbrev words : List ℕ
   words = at .before .before .of .result .words
 
-  step : let a = start .args in let l = at .loop in
-      withHeld (withScheduler (l .self) (woken (l .s) x)) x (holding (a .status) words) ≡ endEach (a .t1) (a .status) words (take (l .i + 1) (a .line .ids))
+  step : (by : Cause) → Holds by (start .args .status) → let a = start .args in let l = at .loop in
+      withHeld (withScheduler (l .self) (woken (l .s) x)) x (holding (a .status) words) ≡ applied (a .t1) (endsEach by words (take (l .i + 1) (a .line .ids)))
   unfolding withScheduler
-  step = let a = start .args in let l = at .loop in each-step (a .t1) (l .self) (l .s) (a .status) words (a .line .ids) (l .i) (omega arith) (l .inv .4)
+  step by same = let a = start .args in let l = at .loop in each-step by words (a .t1) (l .self) (l .s) (a .status) (a .line .ids) (l .i) same (omega arith) (l .inv .4 by same)
 
 loop-again : tie.Need-loop-again Inv-loop μ-loop
 unfolding withScheduler withHeld holding
@@ -68,7 +68,7 @@ loop-again c =
       omega arith,
       l .inv .2,
       simp length-set (l .inv .3),
-      rw (c .before .woken .ensures) ((λ j. withHeld (withScheduler (l .self) (woken (l .s) (x k))) (x k) (g j)) ∙ step k),
+      λ by same. rw (c .before .woken .ensures) ((λ j. withHeld (withScheduler (l .self) (woken (l .s) (x k))) (x k) (g j)) ∙ step k by same),
     )
 
 loop-again-2 : tie.Need-loop-again-2 Inv-loop μ-loop
@@ -77,19 +77,20 @@ loop-again-2 c =
     let k = c .before .before in
     let l = at k .loop in
     let o = held-out (withScheduler (l .self) (woken (l .s) (x k))) (x k) (holding (start k .args .status) (words k)) (l .inv .3) (c .if1 .left) in
-    (omega arith, omega arith, l .inv .2, l .inv .3, rw (c .before .woken .ensures) (sym o ∙ step k))
+    (omega arith, omega arith, l .inv .2, l .inv .3, λ by same. rw (c .before .woken .ensures) (sym o ∙ step k by same))
 
 returns : tie.Need-returns Inv-loop μ-loop
-unfolding answerOf carried answered withScheduler holding
-returns c =
+unfolding withScheduler holding endsb
+returns c by same =
     let a = c .before .before .before .before .before .before .before .args in
     let l = c .before .before .loop in
-    let n : l .i ≡ length (members (a .line)) = omega (arith, c .before .before .before .before .before .size .ensures) in
-    let e : withScheduler (l .self) (l .s) ≡ endEach (a .t1) (a .status) (a .words) (members (a .line)) =
-    l .inv .4
-    ∙ (λ j. endEach (a .t1) (a .status) (c .before .before .before .before .of .ensures j .words) (take (l .i) (a .line .ids)))
-    ∙ ap (endEach (a .t1) (a .status) (a .words)) (ap (λ (j : ℕ). take j (a .line .ids)) n ∙ members-take (a .line)) in
-    c .carried .ensures ∙ carried-as (l .self) (l .s) 0 noWords (members (a .line)) e (c .before .before .before .before .before .size .ensures)
+    let size = c .before .before .before .before .before .size .ensures in
+    let n : l .i ≡ length (members (a .line)) = omega (arith, size) in
+    let e : withScheduler (l .self) (l .s) ≡ applied (a .t1) (endsEach by (a .words) (members (a .line))) =
+    l .inv .4 by same
+    ∙ (λ j. applied (a .t1) (endsEach by (c .before .before .before .before .of .ensures j .words) (take (l .i) (a .line .ids))))
+    ∙ ap (λ (xs : List ℕ). applied (a .t1) (endsEach by (a .words) xs)) (ap (λ (j : ℕ). take j (a .line .ids)) n ∙ members-take (a .line)) in
+    c .carried .ensures ∙ carried-as (a .t1) (l .self) (l .s) _ e (size ∙ sym (ap (λ (xs : List ℕ). length xs) (movers-each by (a .words) endsb (members (a .line)) refl)))
 
 pub ended-each-spec : {M : Type 1} → statement M
 ended-each-spec =

@@ -2,8 +2,9 @@ use mathlib.Core.Path.{_≡_, sym, _∙_}
 use borrow.Author.Needs.{needs}
 use Rattle.calls.specs.Refusals.{groupCreateRefusal}
 use Rattle.kernel.specs.Tables.{groupAt, withScheduler, withGroup}
-use Rattle.kernel.specs.Answers.{answerOf, carried, answered}
-use Rattle.kernel.specs.Groups.{groupCreate}
+use Rattle.kernel.specs.Answers.{answerOf, answered}
+use Rattle.kernel.specs.Edits.{edited, applied, gathered, statusOf, carriedOut}
+use Rattle.kernel.specs.Effects.{storeEffect}
 use Rattle.kernel.proofs.Laws.Answers.{is-carried}
 use Rattle.kernel.proofs.Laws.Arms.{refused-by}
 use Rattle.kernel.proofs.Kernel.event_flags_create.Statement.{statement}
@@ -16,14 +17,13 @@ module _ (k : tie.After-group-create) where
   reason = rw (← k .before .group-in .ensures) (k .group-create .ensures)
 
 returns-2 : tie.Need-returns-2
-unfolding groupCreate groupAt answerOf carried answered withScheduler withGroup
+unfolding carriedOut applied gathered statusOf answerOf answered withScheduler edited storeEffect withGroup
 returns-2 c =
     let k = c .before .before .before .before in
     let z = sym (reason (k .before)) ∙ k .if1 .left in
     rw is-carried (c .carried .ensures ∙ rw (c .before .groups-with .ensures, c .before .before .of .ensures))
 
 pub event-flags-create-spec : {M : Type 1} → statement M
-unfolding groupCreate
 event-flags-create-spec =
     tie.close
     (tie.spec

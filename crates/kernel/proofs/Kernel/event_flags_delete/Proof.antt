@@ -1,15 +1,15 @@
-use mathlib.Core.Path.{_≡_, sym, ap, _∙_}
+use mathlib.Core.Path.{_≡_, refl, sym, ap, _∙_}
 use borrow.Author.Needs.{needs}
 use Rattle.scheduler.specs.Orders.{lineAt}
 use Rattle.objects.specs.Groups.{noGroup}
 use Rattle.calls.specs.Held.{noWords}
 use Rattle.calls.specs.Refusals.{groupDeleteRefusal}
-use Rattle.kernel.specs.declared.Kernel.{Kernel}
 use Rattle.kernel.specs.Tables.{groupAt, withGroup}
-use Rattle.kernel.specs.Answers.{answerOf, carried}
-use Rattle.kernel.specs.Groups.{groupPlace, groupDelete}
-use Rattle.kernel.specs.Kinds.{Kind}
-use Rattle.kernel.proofs.Laws.Waits.{each-object}
+use Rattle.kernel.specs.Answers.{answerOf}
+use Rattle.kernel.specs.Kinds.{Kind, placeOf}
+use Rattle.kernel.specs.Edits.{Cause, statusBy}
+use Rattle.kernel.specs.Effects.{closeEffect}
+use Rattle.kernel.proofs.Laws.Waits.{closed}
 use Rattle.kernel.proofs.Laws.Answers.{is-carried}
 use Rattle.kernel.proofs.Laws.Arms.{refused-by}
 use Rattle.kernel.proofs.Kernel.event_flags_delete.Statement.{statement}
@@ -22,18 +22,17 @@ module _ (k : tie.After-group-delete) where
   reason = rw (← k .before .group-in .ensures) (k .group-delete .ensures)
 
 returns-2 : tie.Need-returns-2
-unfolding groupDelete groupAt withGroup
+unfolding closeEffect statusBy groupAt withGroup
 returns-2 c =
     let h = c .before .before .before .before .before .before in
     let a = h .before .before .before .before .args in
     let z = sym (reason (h .before)) ∙ h .if1 .left in
-    let line = lineAt (a .self .scheduler) (groupPlace (a .n .0)) in
+    let line = lineAt (a .self .scheduler) (placeOf Kind.group (a .n .0)) in
     let m = c .before .before .before .line-at .ensures .1 ∙ ap (lineAt (a .self .scheduler)) (c .before .before .before .before .place .ensures) in
-    let e = ap (λ (k : Kernel). answerOf (carried k 0 noWords line)) (each-object Kind.group (a .self) (a .n .0) noGroup 1 noWords line) in
-    rw is-carried (c .ended-each .ensures ∙ rw (m, c .before .groups-with .ensures, c .before .before .none .ensures) e)
+    let by = Cause.deleted Kind.group (a .n .0) in
+    rw is-carried (c .ended-each .ensures by (λ th h. refl) ∙ rw (m, c .before .groups-with .ensures, c .before .before .none .ensures) (ap answerOf (closed by noWords Kind.group (a .self) (a .n .0) noGroup line)))
 
 pub event-flags-delete-spec : {M : Type 1} → statement M
-unfolding groupDelete
 event-flags-delete-spec =
     tie.close
     (tie.spec

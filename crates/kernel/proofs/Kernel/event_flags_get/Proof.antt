@@ -1,3 +1,4 @@
+use Rattle.scheduler.specs.Orders.{joined}
 use borrow.Author.Needs.{needs}
 use mathlib.Core.Path.{_≡_, sym, _∙_}
 use mathlib.Core.Logic.{⊎-elim}
@@ -10,9 +11,9 @@ use Rattle.objects.specs.Groups.{metb}
 use Rattle.calls.specs.Held.{requesting}
 use Rattle.calls.specs.Refusals.{getRefusal}
 use Rattle.kernel.specs.Tables.{groupAt, withScheduler, withHeld, withGroup}
-use Rattle.kernel.specs.Answers.{answerOf, carried, answered}
-use Rattle.kernel.specs.Waits.{startWait}
-use Rattle.kernel.specs.Groups.{groupGet}
+use Rattle.kernel.specs.Answers.{answerOf, answered}
+use Rattle.kernel.specs.Edits.{recordBy, heldBy, frontb, edited, applied, gathered, endsb, statusOf, carriedOut, guarded}
+use Rattle.kernel.specs.Groups.{flagsGetEffect}
 use Rattle.kernel.proofs.Laws.Answers.{is-carried, first-none, second-none, unless-none, held-out}
 use Rattle.kernel.proofs.Laws.Arms.{refused-by}
 use Rattle.kernel.proofs.Kernel.event_flags_get.Statement.{statement}
@@ -32,7 +33,7 @@ module _ (k : tie.After-flags-get) where
   reason = rw (← k .before .group-in .ensures) (k .flags-get .ensures)
 
 returns-2 : tie.Need-returns-2
-unfolding groupGet startWait groupAt getRefusal answerOf carried answered withScheduler withHeld withGroup
+unfolding carriedOut applied gathered statusOf answerOf answered withScheduler edited recordBy heldBy frontb endsb joined withHeld flagsGetEffect groupAt getRefusal withGroup
 returns-2 c =
     let k = c .before .before .before .before .before in
     let a = k .before .before .before .before .args in
@@ -46,7 +47,7 @@ returns-2 c =
     c .before .before .is-met .ensures ∙ (λ j. metb (i j .flags) (a .request) (o j)) in
     let l = held-sized (k .before .before .before .before) in
     let d = c .before .if2 in
-    let m : answered (d .self) (d .s) (d .status) (d .words) 0 ≡ answerOf (groupGet (a .t1) (a .caller) (a .n .0) (a .request) (a .option) (a .wait)) =
+    let m : answered (d .self) (d .s) (d .status) (d .words) 0 ≡ answerOf (guarded (a .t1) (getRefusal (groupAt (a .t1) (a .n .0)) (a .request) (a .option) (a .wait) (a .caller)) (flagsGetEffect (a .t1) (a .n .0) (a .request) (a .option) (a .wait))) =
     ⊎-elim
     (λ w. rw (w .6, w .7, w .8, w .9, is-carried, ← t, w .0 .taken, w .5 .ensures, w .4 .ensures, w .3 .ensures, w .2 .ensures, w .1 .ensures, o, i))
     (λ w. ⊎-elim
@@ -59,7 +60,6 @@ returns-2 c =
     c .carried .ensures ∙ m
 
 pub event-flags-get-spec : {M : Type 1} → statement M
-unfolding groupGet
 event-flags-get-spec =
     tie.close
     (tie.spec

@@ -3,11 +3,13 @@ use borrow.Author.Needs.{needs}
 use borrow.Author.Tests.{eq-eqb, ne-eqb}
 use Rattle.objects.specs.declared.group.Group.{Group}
 use Rattle.calls.specs.Refusals.{setRefusal}
-use Rattle.kernel.specs.Tables.{groupAt, withScheduler, withGroup}
-use Rattle.kernel.specs.Answers.{answerOf, carried, answered}
-use Rattle.kernel.specs.Groups.{setOr, setAnd, groupSet}
-use Rattle.kernel.proofs.Laws.Answers.{is-carried}
 use lib.Bits.{bitOr}
+use Rattle.kernel.specs.Tables.{groupAt, withScheduler, withGroup}
+use Rattle.kernel.specs.Answers.{answerOf, answered}
+use Rattle.kernel.specs.Edits.{edited, applied, gathered, statusOf, carriedOut}
+use Rattle.kernel.specs.Effects.{storeEffect}
+use Rattle.kernel.specs.Groups.{setOrEffect, setEffect}
+use Rattle.kernel.proofs.Laws.Answers.{is-carried}
 use Rattle.kernel.proofs.Laws.Arms.{refused-by}
 use Rattle.kernel.proofs.Kernel.event_flags_set.Statement.{statement}
 use Rattle.kernel.proofs.Kernel.event_flags_set.Tie as tie
@@ -19,7 +21,7 @@ module _ (k : tie.After-flags-set) where
   reason = rw (← k .before .group-in .ensures) (k .flags-set .ensures)
 
 returns-2 : tie.Need-returns-2
-unfolding groupSet groupAt
+unfolding setEffect groupAt
 returns-2 c =
     let k = c .before .before .before in
     let a = k .before .before .before .before .args in
@@ -27,10 +29,10 @@ returns-2 c =
     k .before .before .group-in .ensures in
     let z = sym (reason (k .before)) ∙ k .if1 .left in
     rw (is-carried, eq-eqb (a .option) 0 (c .before .before .if2 .taken))
-    (c .set-or .ensures ∙ ap (λ (g : Group). answerOf (setOr (a .self) (a .n .0) (bitOr (g .flags) (a .flags)))) i)
+    (c .set-or .ensures ∙ ap (λ (g : Group). answerOf (carriedOut (a .self) (setOrEffect (a .self) (a .n .0) (bitOr (g .flags) (a .flags))))) i)
 
 returns-3 : tie.Need-returns-3
-unfolding groupSet groupAt setAnd answerOf carried answered withScheduler withGroup
+unfolding carriedOut applied gathered statusOf answerOf answered withScheduler edited setEffect storeEffect groupAt withGroup
 returns-3 c =
     let k = c .before .before .before .before .before .before in
     let a = k .before .before .before .before .args in
@@ -41,7 +43,6 @@ returns-3 c =
     (c .carried .ensures ∙ rw (c .before .groups-with .ensures, c .before .before .of .ensures, i))
 
 pub event-flags-set-spec : {M : Type 1} → statement M
-unfolding groupSet
 event-flags-set-spec =
     tie.close
     (tie.spec

@@ -8,8 +8,9 @@ use Rattle.objects.specs.Queues.{sizesFitb, emptyQueue}
 use Rattle.objects.proofs.Laws.Queues.{words-byte, storage-byte}
 use Rattle.calls.specs.Refusals.{queueCreateRefusal}
 use Rattle.kernel.specs.Tables.{queueAt, withScheduler, withQueue}
-use Rattle.kernel.specs.Answers.{answerOf, carried, answered}
-use Rattle.kernel.specs.Queues.{queueCreate}
+use Rattle.kernel.specs.Answers.{answerOf, answered}
+use Rattle.kernel.specs.Edits.{edited, applied, gathered, statusOf, carriedOut}
+use Rattle.kernel.specs.Effects.{storeEffect}
 use Rattle.kernel.proofs.Laws.Answers.{is-carried, first-none, second-none, unless-none, queue-out}
 use Rattle.kernel.proofs.Laws.Arms.{refused-by}
 use Rattle.kernel.proofs.Kernel.queue_create.Statement.{statement}
@@ -29,7 +30,7 @@ module _ (k : tie.After-queue-create) where
   reason = rw (← k .before .queue-in .ensures) (k .queue-create .ensures)
 
 returns-2 : tie.Need-returns-2
-unfolding queueCreate queueCreateRefusal answerOf carried answered withScheduler withQueue queueAt
+unfolding carriedOut applied gathered statusOf answerOf answered withScheduler edited storeEffect queueCreateRefusal withQueue queueAt
 returns-2 c =
     let k = c .before .before .before .before .before in
     let a = k .before .before .before .before .args in
@@ -43,7 +44,6 @@ returns-2 c =
     rw is-carried (c .carried .ensures ∙ rw (m, x))
 
 pub queue-create-spec : {M : Type 1} → statement M
-unfolding queueCreate
 queue-create-spec =
     tie.close
     (tie.spec

@@ -1,8 +1,9 @@
-use mathlib.Core.Path.{_≡_, sym, _∙_}
+use mathlib.Core.Path.{_≡_, refl, sym, _∙_}
 use borrow.Author.Needs.{needs}
 use Rattle.calls.specs.Refusals.{queueDeleteRefusal}
 use Rattle.kernel.specs.Tables.{queueAt}
-use Rattle.kernel.specs.Queues.{queueDelete}
+use Rattle.kernel.specs.Kinds.{Kind}
+use Rattle.kernel.specs.Edits.{Cause, statusBy}
 use Rattle.kernel.proofs.Laws.Answers.{is-carried}
 use Rattle.kernel.proofs.Laws.Arms.{refused-by}
 use Rattle.kernel.proofs.Kernel.queue_delete.Statement.{statement}
@@ -15,14 +16,13 @@ module _ (k : tie.After-queue-delete) where
   reason = rw (← k .before .queue-in .ensures) (k .queue-delete .ensures)
 
 returns-2 : tie.Need-returns-2
-unfolding queueDelete queueAt
+unfolding statusBy queueAt
 returns-2 c =
     let k = c .before .before in
     let z = sym (reason (k .before)) ∙ k .if1 .left in
-    rw is-carried (c .queue-ended .ensures ∙ rw (c .before .none .ensures))
+    rw is-carried (c .queue-ended .ensures (Cause.deleted Kind.queue (k .before .before .before .before .args .n .0)) (λ th h. refl) ∙ rw (c .before .none .ensures))
 
 pub queue-delete-spec : {M : Type 1} → statement M
-unfolding queueDelete
 queue-delete-spec =
     tie.close
     (tie.spec

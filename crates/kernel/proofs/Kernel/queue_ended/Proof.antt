@@ -5,13 +5,12 @@ use lib.ListN.{length}
 use Rattle.scheduler.specs.Orders.{lineAt}
 use Rattle.scheduler.proofs.Laws.Threads.{length-mapped}
 use Rattle.calls.specs.Held.{noWords}
-use Rattle.kernel.specs.declared.Kernel.{Kernel}
 use Rattle.kernel.specs.Tables.{withQueue}
-use Rattle.kernel.specs.Answers.{answerOf, carried}
-use Rattle.kernel.specs.Waits.{endEach}
-use Rattle.kernel.specs.Queues.{queuePlace, endQueue}
-use Rattle.kernel.specs.Kinds.{Kind}
-use Rattle.kernel.proofs.Laws.Waits.{each-object}
+use Rattle.kernel.specs.Answers.{answerOf}
+use Rattle.kernel.specs.Kinds.{Kind, placeOf}
+use Rattle.kernel.specs.Edits.{carriedOut}
+use Rattle.kernel.specs.Effects.{does, endsEach, closeEffect}
+use Rattle.kernel.proofs.Laws.Waits.{closed}
 use Rattle.kernel.proofs.Laws.Answers.{queue-out}
 use Rattle.kernel.proofs.Kernel.queue_ended.Statement.{statement}
 use Rattle.kernel.proofs.Kernel.queue_ended.Tie as tie
@@ -22,17 +21,17 @@ module _ (x : tie.Start) where
   queues-sized = search length-mapped
 
 returns : tie.Need-returns
-unfolding endQueue withQueue
-returns c =
+unfolding closeEffect withQueue
+returns c by same =
     let a = c .before .before .before .before .before .before .args in
     let l = queues-sized (c .before .before .before .before .before .before) in
     let m : c .before .if1 .self ≡ withQueue (a .t1) (a .n .0) (a .q) =
     ⊎-elim (λ w. w .1) (λ w. w .1 ∙ sym (queue-out (a .t1) (a .n .0) (a .q) l (w .0 .left))) (c .before .if1 .came) in
-    let line = lineAt (a .t1 .scheduler) (queuePlace (a .n .0)) in
+    let line = lineAt (a .t1 .scheduler) (placeOf Kind.queue (a .n .0)) in
     let p = c .before .before .before .line-at .ensures .1 ∙ ap (lineAt (a .t1 .scheduler)) (c .before .before .before .before .place .ensures) in
-    c .ended-each .ensures
-    ∙ (λ j. answerOf (carried (endEach (m j) (a .status) noWords (p j)) 0 noWords (p j)))
-    ∙ ap (λ (k : Kernel). answerOf (carried k 0 noWords line)) (each-object Kind.queue (a .t1) (a .n .0) (a .q) (a .status) noWords line)
+    c .ended-each .ensures by same
+    ∙ (λ j. answerOf (carriedOut (m j) (does (endsEach by noWords (p j)))))
+    ∙ ap answerOf (closed by noWords Kind.queue (a .t1) (a .n .0) (a .q) line)
 
 pub queue-ended-spec : {M : Type 1} → statement M
 queue-ended-spec =

@@ -1,12 +1,15 @@
-use mathlib.Core.Path.{_≡_, sym, ap, _∙_}
+use mathlib.Core.Path.{_≡_, refl, sym, ap, _∙_}
 use mathlib.Core.Bool.{true, false}
 use borrow.Author.Needs.{needs}
 use Rattle.objects.specs.declared.queue.Queue.{Queue}
 use Rattle.objects.specs.Queues.{emptyb, flushed}
 use Rattle.calls.specs.Refusals.{queueRefusal}
 use Rattle.kernel.specs.Tables.{queueAt, withScheduler}
-use Rattle.kernel.specs.Answers.{answerOf, carried, answered}
-use Rattle.kernel.specs.Queues.{endQueue, queueFlush}
+use Rattle.kernel.specs.Answers.{answerOf, answered}
+use Rattle.kernel.specs.Kinds.{Kind}
+use Rattle.kernel.specs.Edits.{Cause, statusBy, applied, gathered, statusOf, carriedOut}
+use Rattle.kernel.specs.Effects.{closeEffect}
+use Rattle.kernel.specs.Queues.{flushEffect}
 use Rattle.kernel.proofs.Laws.Answers.{is-carried}
 use Rattle.kernel.proofs.Laws.Arms.{refused-by}
 use Rattle.kernel.proofs.Kernel.queue_flush.Statement.{statement}
@@ -19,7 +22,7 @@ module _ (k : tie.After-queue) where
   reason = rw (← k .before .queue-in .ensures) (k .queue .ensures)
 
 returns-2 : tie.Need-returns-2
-unfolding queueFlush answerOf carried answered withScheduler queueAt
+unfolding carriedOut applied gathered statusOf answerOf answered withScheduler flushEffect queueAt
 returns-2 c =
     let k = c .before .before .before .before in
     let a = k .before .before .before .before .args in
@@ -30,7 +33,7 @@ returns-2 c =
     rw (is-carried, t) (c .carried .ensures)
 
 returns-3 : tie.Need-returns-3
-unfolding queueFlush queueAt
+unfolding flushEffect statusBy queueAt
 returns-3 c =
     let k = c .before .before .before .before in
     let a = k .before .before .before .before .args in
@@ -38,11 +41,11 @@ returns-3 c =
     let z = sym (reason (k .before)) ∙ k .if1 .left in
     let t : emptyb (queueAt (a .self) (a .n .0)) ≡ false =
     sym (c .before .before .before .is-empty .ensures ∙ ap emptyb i) ∙ c .before .before .if2 .left in
+    let by = Cause.served Kind.queue (a .n .0) in
     rw (is-carried, t)
-    (c .queue-ended .ensures ∙ rw (c .before .flushed .ensures) (ap (λ (q : Queue). answerOf (endQueue (a .self) (a .n .0) (flushed q) 0)) i))
+    (c .queue-ended .ensures by (λ th h. refl) ∙ rw (c .before .flushed .ensures) (ap (λ (q : Queue). answerOf (carriedOut (a .self) (closeEffect by Kind.queue (a .n .0) (flushed q) (a .self)))) i))
 
 pub queue-flush-spec : {M : Type 1} → statement M
-unfolding queueFlush
 queue-flush-spec =
     tie.close
     (tie.spec

@@ -2,8 +2,9 @@ use mathlib.Core.Path.{_≡_, sym, _∙_}
 use borrow.Author.Needs.{needs}
 use Rattle.calls.specs.Refusals.{queueRefusal}
 use Rattle.kernel.specs.Tables.{queueAt, withScheduler}
-use Rattle.kernel.specs.Answers.{answerOf, carried, answered}
-use Rattle.kernel.specs.Queues.{queuePrioritize}
+use Rattle.kernel.specs.Answers.{answerOf, answered}
+use Rattle.kernel.specs.Edits.{edited, applied, gathered, statusOf, carriedOut}
+use Rattle.kernel.specs.Effects.{rankEffect}
 use Rattle.kernel.proofs.Laws.Answers.{is-carried}
 use Rattle.kernel.proofs.Laws.Arms.{refused-by}
 use Rattle.kernel.proofs.Kernel.queue_prioritize.Statement.{statement}
@@ -16,14 +17,13 @@ module _ (k : tie.After-queue) where
   reason = rw (← k .before .queue-in .ensures) (k .queue .ensures)
 
 returns-2 : tie.Need-returns-2
-unfolding queuePrioritize answerOf carried answered withScheduler queueAt
+unfolding carriedOut applied gathered statusOf answerOf answered withScheduler edited rankEffect
 returns-2 c =
     let k = c .before .before .before .before in
     let z = sym (reason (k .before)) ∙ k .if1 .left in
     rw is-carried (c .carried .ensures ∙ rw (c .before .prioritised .ensures, c .before .before .place .ensures))
 
 pub queue-prioritize-spec : {M : Type 1} → statement M
-unfolding queuePrioritize
 queue-prioritize-spec =
     tie.close
     (tie.spec

@@ -1,3 +1,4 @@
+use Rattle.scheduler.specs.Orders.{joined}
 use borrow.Author.Needs.{needs}
 use mathlib.Core.Path.{_≡_, sym, ap, _∙_}
 use mathlib.Core.Logic.{⊎-elim}
@@ -16,10 +17,12 @@ use Rattle.calls.specs.Held.{noHeld, noWords, holding, waiting}
 use Rattle.calls.specs.Statuses.{success}
 use Rattle.calls.specs.Refusals.{receiveRefusal}
 use Rattle.kernel.specs.declared.Kernel.{Kernel}
-use Rattle.kernel.specs.Tables.{queueAt, heldAt, withScheduler, withHeld, withQueue}
-use Rattle.kernel.specs.Answers.{answerOf, carried, answered}
-use Rattle.kernel.specs.Waits.{endWait, startWait}
-use Rattle.kernel.specs.Queues.{queuePlace, receivePast, receiveFrom, queueReceive}
+use Rattle.kernel.specs.Tables.{heldAt, queueAt, withScheduler, withHeld, withQueue}
+use Rattle.kernel.specs.Answers.{answerOf, answered}
+use Rattle.kernel.specs.Kinds.{Kind, placeOf}
+use Rattle.kernel.specs.Edits.{statusBy, recordBy, heldBy, frontb, edited, applied, gathered, endsb, statusOf, carriedOut}
+use Rattle.kernel.specs.Effects.{endsEach}
+use Rattle.kernel.specs.Queues.{pastEffect, receiveEffect}
 use Rattle.kernel.proofs.Laws.Answers.{is-carried, held-out, queue-out}
 use Rattle.kernel.proofs.Laws.Arms.{refused-by}
 use Rattle.kernel.proofs.Laws.Reads.{read-inside}
@@ -29,23 +32,23 @@ use Rattle.kernel.proofs.Kernel.queue_receive.Tie as tie
 -- a receive past the sender first in line, by what the tables, the queue and the reply then are
 from-sender :
     (k y : Kernel) (n wait : ℕ) (q left : Queue) (s : Scheduler) (words : List ℕ) (ended t : ℕ) (h : Held) →
-    t ≡ firstAt (k .scheduler) (queuePlace n) → emptyb q ≡ false → t < 32 → h ≡ heldAt k t →
+    q ≡ queueAt k n → t ≡ firstAt (k .scheduler) (placeOf Kind.queue n) → emptyb q ≡ false → t < 32 → h ≡ heldAt k t →
     y ≡ withHeld k t (holding success noWords) → left ≡ leftPast q (h .front) (h .message) → s ≡ woken (k .scheduler) t →
     words ≡ givenPast q (h .front) (h .message) → ended ≡ 1 →
-    answered (withQueue y n left) s success words ended ≡ answerOf (receiveFrom k n q wait)
-unfolding receiveFrom receivePast endWait answerOf carried answered withScheduler withHeld withQueue
-from-sender k y n wait q left s words ended t h f e o g a b c d w =
-    (λ j. answered (withQueue (a j) n (b j)) (c j) success (d j) (w j)) ∙ rw (e, ← f, lt-ltb t 32 o, g)
+    answered (withQueue y n left) s success words ended ≡ answerOf (carriedOut k (receiveEffect k n wait))
+unfolding carriedOut applied gathered statusOf answerOf answered withScheduler edited recordBy heldBy frontb endsb joined withHeld statusBy woken receiveEffect pastEffect endsEach withQueue
+from-sender k y n wait q left s words ended t h i f e o g a b c d w =
+    (λ j. answered (withQueue (a j) n (b j)) (c j) success (d j) (w j)) ∙ rw (← i, e, ← f, lt-ltb t 32 o, g)
 
 -- a receive of the oldest message, with nobody in line
 from-store :
     (k y : Kernel) (n wait : ℕ) (q left : Queue) (s : Scheduler) (words : List ℕ) (ended t : ℕ) →
-    t ≡ firstAt (k .scheduler) (queuePlace n) → emptyb q ≡ false → 32 ≤ t →
+    q ≡ queueAt k n → t ≡ firstAt (k .scheduler) (placeOf Kind.queue n) → emptyb q ≡ false → 32 ≤ t →
     y ≡ k → left ≡ withoutOldest q → s ≡ k .scheduler → words ≡ oldest q → ended ≡ 0 →
-    answered (withQueue y n left) s success words ended ≡ answerOf (receiveFrom k n q wait)
-unfolding receiveFrom answerOf carried answered withScheduler withQueue
-from-store k y n wait q left s words ended t f e o a b c d w =
-    (λ j. answered (withQueue (a j) n (b j)) (c j) success (d j) (w j)) ∙ rw (e, ← f, le-ltb t 32 o)
+    answered (withQueue y n left) s success words ended ≡ answerOf (carriedOut k (receiveEffect k n wait))
+unfolding carriedOut applied gathered statusOf answerOf answered withScheduler edited receiveEffect withQueue
+from-store k y n wait q left s words ended t i f e o a b c d w =
+    (λ j. answered (withQueue (a j) n (b j)) (c j) success (d j) (w j)) ∙ rw (← i, e, ← f, le-ltb t 32 o)
 
 -- the sizes of tables
 module _ (x : tie.Start) where
@@ -73,20 +76,21 @@ module _ (k : tie.Joined4) where
   start = tested .before .before .before .before .before .before
 
   received :
-      let a = start .args in let y = k .if4 in let q = tested .before .before .before .before .queue-in .result in
-      answered (withQueue (y .self) (a .n .0) (y .left)) (y .s) success (y .words) (y .ended) ≡ answerOf (receiveFrom (a .t1) (a .n .0) q (a .wait))
-  unfolding heldAt withHeld
+      let a = start .args in let y = k .if4 in
+      answered (withQueue (y .self) (a .n .0) (y .left)) (y .s) success (y .words) (y .ended) ≡ answerOf (carriedOut (a .t1) (receiveEffect (a .t1) (a .n .0) (a .wait)))
+  unfolding heldAt withHeld queueAt
   received =
       let a = start .args in
       let y = k .if4 in
+      let i = tested .before .before .before .before .queue-in .ensures in
       let f = first .first-at .ensures ∙ ap (firstAt (a .t1 .scheduler)) (first .before .place .ensures) in
       let n = sym (tested .is-empty .ensures) ∙ first .before .before .if2 .left in
       ⊎-elim
       (λ p.
       let h = read-inside (a .t1 .held) _ _ noHeld (p .0 .taken) (held-sized start) in
       let e = p .7 ∙ ap (withHeld (a .t1) _) (p .5 .ensures) in
-      from-sender (a .t1) (y .self) (a .n .0) (a .wait) _ (y .left) (y .s) (y .words) (y .ended) _ _ f n (p .0 .taken) h e (p .11 ∙ p .4 .ensures) (p .8 ∙ p .6 .ensures) (p .10 ∙ p .3 .ensures) (p .9))
-      (λ p. from-store (a .t1) (y .self) (a .n .0) (a .wait) _ (y .left) (y .s) (y .words) (y .ended) _ f n (p .0 .left) (p .3) (p .7 ∙ p .2 .ensures) (p .4) (p .6 ∙ p .1 .ensures) (p .5))
+      from-sender (a .t1) (y .self) (a .n .0) (a .wait) _ (y .left) (y .s) (y .words) (y .ended) _ _ i f n (p .0 .taken) h e (p .11 ∙ p .4 .ensures) (p .8 ∙ p .6 .ensures) (p .10 ∙ p .3 .ensures) (p .9))
+      (λ p. from-store (a .t1) (y .self) (a .n .0) (a .wait) _ (y .left) (y .s) (y .words) (y .ended) _ i f n (p .0 .left) (p .3) (p .7 ∙ p .2 .ensures) (p .4) (p .6 ∙ p .1 .ensures) (p .5))
       (y .came)
 
   abbrev sizeOf : Kernel → ℕ
@@ -98,7 +102,7 @@ module _ (k : tie.Joined4) where
       ⊎-elim (λ p. ap sizeOf (p .7) ∙ queues-sized start) (λ p. ap sizeOf (p .3) ∙ queues-sized start) (k .if4 .came)
 
 returns-2 : tie.Need-returns-2
-unfolding queueReceive queueAt receiveFrom startWait answerOf carried answered withScheduler withHeld withQueue
+unfolding carriedOut applied gathered statusOf answerOf answered withScheduler edited recordBy heldBy frontb endsb joined withHeld receiveEffect queueAt withQueue
 returns-2 c =
     let b = c .before .before in
     let k = b .before .before in
@@ -107,13 +111,13 @@ returns-2 c =
     let z = sym (reason (k .before)) ∙ k .if1 .left in
     let l = held-sized (k .before .before .before .before) in
     let i = c .before .if2 in
-    let m : answered (i .self) (i .s) (i .status) (i .words) (i .ended) ≡ answerOf (receiveFrom (a .t1) (a .n .0) (q .result) (a .wait)) =
+    let m : answered (i .self) (i .s) (i .status) (i .words) (i .ended) ≡ answerOf (carriedOut (a .t1) (receiveEffect (a .t1) (a .n .0) (a .wait))) =
     ⊎-elim
-    (λ w. rw (w .6, w .7, w .8, w .9, w .10, ← b .is-empty .ensures, w .0 .taken, w .3 .ensures, w .5 .ensures))
+    (λ w. rw (w .6, w .7, w .8, w .9, w .10, ← q .ensures, ← b .is-empty .ensures, w .0 .taken, w .3 .ensures, w .5 .ensures))
     (λ w. ⊎-elim
     (λ v.
     let o = held-out (a .t1) (a .t1 .scheduler .running .0) waiting l (v .4 .left) in
-    rw (v .5 ∙ sym o, v .6, v .7, v .8, v .9, ← b .is-empty .ensures, v .0 .taken, v .3 .ensures))
+    rw (v .5 ∙ sym o, v .6, v .7, v .8, v .9, ← q .ensures, ← b .is-empty .ensures, v .0 .taken, v .3 .ensures))
     (λ v. ⊎-elim
     (λ x.
     let y = x .4 in
@@ -128,10 +132,9 @@ returns-2 c =
     v)
     w)
     (i .came) in
-    rw is-carried (c .carried .ensures ∙ m ∙ ap (λ (x : Queue). answerOf (receiveFrom (a .t1) (a .n .0) x (a .wait))) (q .ensures))
+    rw is-carried (c .carried .ensures ∙ m)
 
 pub queue-receive-spec : {M : Type 1} → statement M
-unfolding queueReceive
 queue-receive-spec =
     tie.close
     (tie.spec

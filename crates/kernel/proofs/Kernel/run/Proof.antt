@@ -18,13 +18,17 @@ use Rattle.tape.specs.declared.Record.{Record}
 use Rattle.tape.specs.Replies.{replied}
 use Rattle.tape.specs.Tapes.{countOf, recordsOf, messagesOf}
 use Rattle.tape.proofs.Laws.Tapes.{count-most, lent-within, lent-words, lent-length}
+use Rattle.calls.specs.Refusals.{sendRefusal}
+use Rattle.calls.specs.Messages.{messageIn}
 use Rattle.kernel.specs.declared.Kernel.{Kernel}
 use Rattle.kernel.specs.declared.Answer.{Answer}
+use Rattle.kernel.specs.Tables.{queueAt}
 use Rattle.kernel.specs.Answers.{answerOf}
-use Rattle.kernel.specs.General.{service, step}
-use Rattle.kernel.specs.Queues.{queueSend}
-use Rattle.kernel.specs.Runs.{afterRecord, afterRecords, replyOf, replyTo, repliedAll, ran, ranReplies}
 use Rattle.kernel.specs.Sound.{soundb, Sound}
+use Rattle.kernel.specs.Edits.{guarded}
+use Rattle.kernel.specs.Queues.{sendEffect}
+use Rattle.kernel.specs.General.{reasonOf, effectOf, service, step}
+use Rattle.kernel.specs.Runs.{afterRecord, afterRecords, ran, replyOf, replyTo, repliedAll, ranReplies}
 use Rattle.kernel.proofs.Laws.Runs.{after-more, take-smaller, unsound-all, sound-record, replied-more, sound-reply}
 use Rattle.kernel.proofs.Laws.Records.{to-service, to-refusal}
 use Rattle.kernel.proofs.Laws.Sound.{tested}
@@ -119,10 +123,12 @@ module _ (k : tie.At-match-came Inv-loop μ-loop) where
 
   -- a send of lent words
   abbrev sent : Bool → List ℕ → Answer
-  sent front words = answerOf (queueSend tables (r .caller) (k .before .before .before .before .queue-id .result .0) (r .b) (r .c) front words)
+  sent front words =
+      let q = k .before .before .before .before .queue-id .result .0 in
+      answerOf (guarded tables (sendRefusal (queueAt tables q) (r .c) (length words) (r .b) (r .caller)) (sendEffect tables q (r .b) front (messageIn words (r .c) (queueAt tables q .words))))
 
   stepped : Stepped
-  unfolding service knownCall
+  unfolding service reasonOf effectOf knownCall
   stepped =
       ⊎-elim (λ w. served (w .0 .keys1) refl (λ j. Known (calls.ThreadCreate (thread j) (r .b) (r .c) (r .d))) (w .2 ∙ w .1 .ensures))
       (⊎-elim (λ w. served (w .0 .keys2) refl (λ j. Known (calls.ThreadDelete (thread j))) (w .2 ∙ w .1 .ensures))

@@ -3,7 +3,7 @@ use mathlib.Core.Path.{_≡_, sym, ap, _∙_}
 use Rattle.calls.specs.Refusals.{semaphoreRefusal, ceilingRefusal}
 use Rattle.kernel.specs.Tables.{semaphoreAt}
 use Rattle.kernel.specs.Answers.{answerOf}
-use Rattle.kernel.specs.Semaphores.{putOn, semaphorePut, semaphoreCeilingPut}
+use Rattle.kernel.specs.Semaphores.{putEffect}
 use Rattle.kernel.proofs.Laws.Answers.{is-carried, first-none}
 use Rattle.kernel.proofs.Laws.Arms.{refused-by}
 use Rattle.kernel.proofs.Kernel.semaphore_ceiling_put.Statement.{statement}
@@ -16,15 +16,14 @@ module _ (k : tie.After-ceiling-put) where
   reason = rw (← k .before .semaphore-in .ensures) (k .ceiling-put .ensures)
 
 returns-2 : tie.Need-returns-2
-unfolding semaphorePut semaphoreCeilingPut semaphoreAt semaphoreRefusal ceilingRefusal
+unfolding semaphoreAt semaphoreRefusal ceilingRefusal
 returns-2 c =
     let a = c .before .before .before .before .before .args in
     let z = sym (reason (c .before .before)) ∙ c .before .if1 .left in
     let y : semaphoreRefusal (semaphoreAt (a .self) (a .n .0)) ≡ 0 = first-none _ _ z in
-    c .semaphore-put .ensures ∙ ap answerOf (is-carried (a .self) _ (putOn (a .self) (a .n .0)) y ∙ sym (is-carried (a .self) _ (putOn (a .self) (a .n .0)) z))
+    c .semaphore-put .ensures ∙ ap answerOf (is-carried (a .self) _ (putEffect (a .self) (a .n .0)) y ∙ sym (is-carried (a .self) _ (putEffect (a .self) (a .n .0)) z))
 
 pub semaphore-ceiling-put-spec : {M : Type 1} → statement M
-unfolding semaphoreCeilingPut
 semaphore-ceiling-put-spec =
     tie.close
     (tie.spec

@@ -1,9 +1,10 @@
 use mathlib.Core.Path.{_≡_, sym, _∙_}
 use borrow.Author.Needs.{needs}
 use Rattle.calls.specs.Refusals.{semaphoreCreateRefusal}
-use Rattle.kernel.specs.Tables.{semaphoreAt, withScheduler, withHeld, withSemaphore, withClock, given}
-use Rattle.kernel.specs.Answers.{answerOf, carried, answered}
-use Rattle.kernel.specs.Semaphores.{semaphoreCreate}
+use Rattle.kernel.specs.Tables.{semaphoreAt, withScheduler, withSemaphore}
+use Rattle.kernel.specs.Answers.{answerOf, answered}
+use Rattle.kernel.specs.Edits.{edited, applied, gathered, statusOf, carriedOut}
+use Rattle.kernel.specs.Effects.{storeEffect}
 use Rattle.kernel.proofs.Laws.Answers.{is-carried}
 use Rattle.kernel.proofs.Laws.Arms.{refused-by}
 use Rattle.kernel.proofs.Kernel.semaphore_create.Statement.{statement}
@@ -18,14 +19,13 @@ module _ (k : tie.After-semaphore-create) where
   reason = rw (← k .before .semaphore-in .ensures) (k .semaphore-create .ensures)
 
 returns-2 : tie.Need-returns-2
-unfolding semaphoreCreate answerOf carried answered given withHeld withScheduler withSemaphore withClock semaphoreAt
+unfolding carriedOut applied gathered statusOf answerOf answered withScheduler edited storeEffect withSemaphore
 returns-2 c =
     let k = c .before .before .before .before in
     let z = sym (reason (k .before)) ∙ k .if1 .left in
     rw is-carried (c .carried .ensures ∙ rw (c .before .semaphores-with .ensures, c .before .before .counting .ensures))
 
 pub semaphore-create-spec : {M : Type 1} → statement M
-unfolding semaphoreCreate
 semaphore-create-spec =
     tie.close
     (tie.spec

@@ -1,16 +1,16 @@
-use mathlib.Core.Path.{_≡_, sym, ap, _∙_}
+use mathlib.Core.Path.{_≡_, refl, sym, ap, _∙_}
 use borrow.Author.Needs.{needs}
 use Rattle.scheduler.specs.Orders.{lineAt}
 use Rattle.calls.specs.Held.{noWords}
 use Rattle.calls.specs.Refusals.{semaphoreDeleteRefusal}
-use Rattle.kernel.specs.declared.Kernel.{Kernel}
-use Rattle.kernel.specs.Tables.{semaphoreAt, withSemaphore}
-use Rattle.kernel.specs.Answers.{answerOf, carried}
-use Rattle.kernel.specs.Semaphores.{semaphorePlace, semaphoreDelete}
-use Rattle.kernel.specs.Kinds.{Kind}
-use Rattle.kernel.proofs.Laws.Waits.{each-object}
-use Rattle.kernel.proofs.Laws.Answers.{is-carried}
 use Rattle.objects.specs.Semaphores.{noSemaphore}
+use Rattle.kernel.specs.Tables.{semaphoreAt, withSemaphore}
+use Rattle.kernel.specs.Answers.{answerOf}
+use Rattle.kernel.specs.Kinds.{Kind, placeOf}
+use Rattle.kernel.specs.Edits.{Cause, statusBy}
+use Rattle.kernel.specs.Effects.{closeEffect}
+use Rattle.kernel.proofs.Laws.Waits.{closed}
+use Rattle.kernel.proofs.Laws.Answers.{is-carried}
 use Rattle.kernel.proofs.Laws.Arms.{refused-by}
 use Rattle.kernel.proofs.Kernel.semaphore_delete.Statement.{statement}
 use Rattle.kernel.proofs.Kernel.semaphore_delete.Tie as tie
@@ -24,18 +24,17 @@ module _ (k : tie.After-semaphore-delete) where
   reason = rw (← k .before .semaphore-in .ensures) (k .semaphore-delete .ensures)
 
 returns-2 : tie.Need-returns-2
-unfolding semaphoreDelete semaphoreAt withSemaphore
+unfolding closeEffect statusBy semaphoreAt withSemaphore
 returns-2 c =
     let h = c .before .before .before .before .before .before in
     let a = h .before .before .before .before .args in
     let z = sym (reason (h .before)) ∙ h .if1 .left in
     let m = c .before .before .before .line-at .ensures .1 ∙ ap (lineAt (a .self .scheduler)) (c .before .before .before .before .place .ensures) in
-    let p = lineAt (a .self .scheduler) (semaphorePlace (a .n .0)) in
-    let e = ap (λ (k : Kernel). answerOf (carried k 0 noWords p)) (each-object Kind.semaphore (a .self) (a .n .0) noSemaphore 1 noWords p) in
-    rw is-carried (c .ended-each .ensures ∙ rw (m, c .before .semaphores-with .ensures, c .before .before .none .ensures) e)
+    let line = lineAt (a .self .scheduler) (placeOf Kind.semaphore (a .n .0)) in
+    let by = Cause.deleted Kind.semaphore (a .n .0) in
+    rw is-carried (c .ended-each .ensures by (λ th h. refl) ∙ rw (m, c .before .semaphores-with .ensures, c .before .before .none .ensures) (ap answerOf (closed by noWords Kind.semaphore (a .self) (a .n .0) noSemaphore line)))
 
 pub semaphore-delete-spec : {M : Type 1} → statement M
-unfolding semaphoreDelete
 semaphore-delete-spec =
     tie.close
     (tie.spec

@@ -1,3 +1,4 @@
+use Rattle.scheduler.specs.Orders.{joined}
 use borrow.Author.Needs.{needs}
 use mathlib.Core.Path.{_≡_, sym, _∙_}
 use mathlib.Core.Logic.{⊎-elim}
@@ -7,9 +8,10 @@ use Rattle.scheduler.proofs.Laws.Threads.{length-mapped}
 use Rattle.calls.specs.Held.{noWords, waiting}
 use Rattle.calls.specs.Refusals.{semaphoreGetRefusal}
 use Rattle.kernel.specs.Tables.{semaphoreAt, withScheduler, withHeld, withSemaphore}
-use Rattle.kernel.specs.Answers.{answerOf, carried, answered}
-use Rattle.kernel.specs.Waits.{startWait}
-use Rattle.kernel.specs.Semaphores.{semaphoreGet}
+use Rattle.kernel.specs.Answers.{answerOf, answered}
+use Rattle.kernel.specs.Edits.{recordBy, heldBy, frontb, edited, applied, gathered, endsb, statusOf, carriedOut, guarded}
+use Rattle.kernel.specs.Effects.{takeEffect}
+use Rattle.kernel.specs.Semaphores.{semaphoreGetEffect}
 use Rattle.kernel.proofs.Laws.Answers.{is-carried, held-out}
 use Rattle.kernel.proofs.Laws.Arms.{refused-by}
 use Rattle.kernel.proofs.Kernel.semaphore_get.Statement.{statement}
@@ -29,7 +31,7 @@ module _ (k : tie.After-semaphore-get) where
   reason = rw (← k .before .semaphore-in .ensures) (k .semaphore-get .ensures)
 
 returns-2 : tie.Need-returns-2
-unfolding semaphoreGet startWait answerOf carried answered withScheduler withHeld withSemaphore semaphoreAt
+unfolding carriedOut applied gathered statusOf answerOf answered withScheduler edited recordBy heldBy frontb endsb joined withHeld semaphoreGetEffect takeEffect withSemaphore semaphoreAt
 returns-2 c =
     let k = c .before .before .before .before in
     let a = k .before .before .before .before .args in
@@ -37,7 +39,7 @@ returns-2 c =
     let z = sym (reason (k .before)) ∙ k .if1 .left in
     let l = held-sized (k .before .before .before .before) in
     let d = c .before .if2 in
-    let m : answered (d .self) (d .s) (d .status) noWords 0 ≡ answerOf (semaphoreGet (a .t1) (a .caller) (a .n .0) (a .wait)) =
+    let m : answered (d .self) (d .s) (d .status) noWords 0 ≡ answerOf (guarded (a .t1) (semaphoreGetRefusal (semaphoreAt (a .t1) (a .n .0)) (a .wait) (a .caller)) (semaphoreGetEffect (a .t1) (a .n .0) (a .wait))) =
     ⊎-elim
     (λ w. rw (w .4, w .5, w .6, is-carried, ← k .before .before .semaphore-in .ensures, lt-ltb 0 (x .count) (w .0 .taken), w .3 .ensures, w .2 .ensures))
     (λ w. ⊎-elim
@@ -50,7 +52,6 @@ returns-2 c =
     c .carried .ensures ∙ m
 
 pub semaphore-get-spec : {M : Type 1} → statement M
-unfolding semaphoreGet
 semaphore-get-spec =
     tie.close
     (tie.spec

@@ -1,9 +1,10 @@
 use mathlib.Core.Path.{_≡_, sym, _∙_}
 use borrow.Author.Needs.{needs}
 use Rattle.calls.specs.Refusals.{semaphoreRefusal}
-use Rattle.kernel.specs.Tables.{semaphoreAt, withScheduler, withHeld, withSemaphore, withClock, given}
-use Rattle.kernel.specs.Answers.{answerOf, carried, answered}
-use Rattle.kernel.specs.Semaphores.{semaphorePrioritize}
+use Rattle.kernel.specs.Tables.{semaphoreAt, withScheduler}
+use Rattle.kernel.specs.Answers.{answerOf, answered}
+use Rattle.kernel.specs.Edits.{edited, applied, gathered, statusOf, carriedOut}
+use Rattle.kernel.specs.Effects.{rankEffect}
 use Rattle.kernel.proofs.Laws.Answers.{is-carried}
 use Rattle.kernel.proofs.Laws.Arms.{refused-by}
 use Rattle.kernel.proofs.Kernel.semaphore_prioritize.Statement.{statement}
@@ -16,14 +17,13 @@ module _ (k : tie.After-semaphore) where
   reason = rw (← k .before .semaphore-in .ensures) (k .semaphore .ensures)
 
 returns-2 : tie.Need-returns-2
-unfolding semaphorePrioritize answerOf carried answered given withHeld withScheduler withSemaphore withClock semaphoreAt
+unfolding carriedOut applied gathered statusOf answerOf answered withScheduler edited rankEffect
 returns-2 c =
     let k = c .before .before .before .before in
     let z = sym (reason (k .before)) ∙ k .if1 .left in
     rw is-carried (c .carried .ensures ∙ rw (c .before .prioritised .ensures, c .before .before .place .ensures))
 
 pub semaphore-prioritize-spec : {M : Type 1} → statement M
-unfolding semaphorePrioritize
 semaphore-prioritize-spec =
     tie.close
     (tie.spec

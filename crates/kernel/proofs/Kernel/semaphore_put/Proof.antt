@@ -1,3 +1,5 @@
+use Rattle.scheduler.specs.Orders.{joined}
+use Rattle.scheduler.specs.Orders.{woken}
 use borrow.Author.Needs.{needs}
 use mathlib.Core.Path.{_≡_, sym, ap, _∙_}
 use mathlib.Core.Logic.{⊎-elim}
@@ -7,9 +9,10 @@ use Rattle.calls.specs.Held.{noWords}
 use Rattle.calls.specs.Statuses.{success}
 use Rattle.calls.specs.Refusals.{semaphoreRefusal}
 use Rattle.kernel.specs.Tables.{semaphoreAt, withScheduler, withHeld, withSemaphore}
-use Rattle.kernel.specs.Answers.{answerOf, carried, answered}
-use Rattle.kernel.specs.Waits.{endWait, oneMore}
-use Rattle.kernel.specs.Semaphores.{putOn, semaphorePut}
+use Rattle.kernel.specs.Answers.{answerOf, answered}
+use Rattle.kernel.specs.Edits.{statusBy, recordBy, heldBy, frontb, edited, applied, gathered, endsb, statusOf, carriedOut, guarded}
+use Rattle.kernel.specs.Effects.{oneMore, storeEffect, serveEffect, giveEffect}
+use Rattle.kernel.specs.Semaphores.{putEffect}
 use Rattle.kernel.proofs.Laws.Answers.{is-carried}
 use Rattle.kernel.proofs.Laws.Arms.{refused-by}
 use Rattle.kernel.proofs.Kernel.semaphore_put.Statement.{statement}
@@ -22,7 +25,7 @@ module _ (k : tie.After-semaphore) where
   reason = rw (← k .before .semaphore-in .ensures) (k .semaphore .ensures)
 
 returns-2 : tie.Need-returns-2
-unfolding semaphorePut putOn endWait oneMore answerOf carried answered withScheduler withHeld withSemaphore semaphoreAt
+unfolding carriedOut applied gathered statusOf answerOf answered withScheduler edited recordBy heldBy frontb endsb joined withHeld statusBy woken putEffect giveEffect serveEffect storeEffect oneMore withSemaphore semaphoreAt
 returns-2 c =
     let k = c .before .before .before .before .before .before in
     let a = k .before .before .before .before .args in
@@ -30,7 +33,7 @@ returns-2 c =
     let first = c .before .before .before .first-at in
     let f = first .ensures ∙ ap (firstAt (a .t1 .scheduler)) (c .before .before .before .before .place .ensures) in
     let d = c .before .if2 in
-    let m : answered (d .self) (d .s) success noWords (d .ended) ≡ answerOf (semaphorePut (a .t1) (a .n .0)) =
+    let m : answered (d .self) (d .s) success noWords (d .ended) ≡ answerOf (guarded (a .t1) (semaphoreRefusal (semaphoreAt (a .t1) (a .n .0))) (putEffect (a .t1) (a .n .0))) =
     ⊎-elim
     (λ w. rw (w .3, w .4, w .5, is-carried, ← f, lt-ltb (first .result .0) 32 (w .0 .taken), w .2 .ensures, w .1 .ensures))
     (λ w. rw (w .4, w .5, w .6, is-carried, ← f, le-ltb (first .result .0) 32 (w .0 .left), w .3 .ensures, w .2 .ensures, w .1 .ensures, k .before .before .semaphore-in .ensures))
@@ -38,7 +41,6 @@ returns-2 c =
     c .carried .ensures ∙ m
 
 pub semaphore-put-spec : {M : Type 1} → statement M
-unfolding semaphorePut
 semaphore-put-spec =
     tie.close
     (tie.spec

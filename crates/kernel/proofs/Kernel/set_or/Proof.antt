@@ -10,19 +10,20 @@ use Rattle.scheduler.specs.Orders.{lineAt, woken}
 use Rattle.scheduler.proofs.Laws.Threads.{length-mapped}
 use Rattle.objects.specs.Groups.{groupWith, lessFlags}
 use Rattle.calls.specs.declared.held.Held.{Held}
-use Rattle.calls.specs.Held.{noWords, oneWord, holding, noHeld}
+use Rattle.calls.specs.Held.{oneWord, holding, noHeld}
 use Rattle.matching.specs.Matching.{wokenOf, clearsOf}
-use Rattle.kernel.specs.declared.Kernel.{Kernel}
-use Rattle.kernel.specs.Tables.{heldAt, withGroup, withScheduler, withHeld}
-use Rattle.kernel.specs.Answers.{answerOf, carried, answered}
-use Rattle.kernel.specs.Groups.{groupPlace, wokenBy, clearsBy, setOr}
-use Rattle.kernel.specs.Kinds.{Kind}
-use Rattle.kernel.proofs.Laws.Waits.{each-object, each-step}
-use Rattle.kernel.proofs.Laws.Groups.{table-all, clears-by, woken-members, table-more}
 use Rattle.lines.proofs.Laws.Lists.{getD-any}
 use native.Mathlib.Nat.{not-suc-le-zero}
 use Rattle.lines.specs.declared.Line.{Line}
-use Rattle.kernel.specs.Waits.{endEach}
+use Rattle.kernel.specs.declared.Kernel.{Kernel}
+use Rattle.kernel.specs.Tables.{heldAt, withScheduler, withHeld, withGroup}
+use Rattle.kernel.specs.Answers.{answerOf}
+use Rattle.kernel.specs.Kinds.{Kind, placeOf}
+use Rattle.kernel.specs.Edits.{Cause, statusBy, Holds, Edit, applied, endsb}
+use Rattle.kernel.specs.Effects.{endsEach}
+use Rattle.kernel.specs.Groups.{wokenBy, clearsBy, setOrEffect}
+use Rattle.kernel.proofs.Laws.Waits.{closed, each-step, movers-each}
+use Rattle.kernel.proofs.Laws.Groups.{table-all, clears-by, woken-members, table-more}
 use Rattle.kernel.proofs.Laws.Answers.{held-out}
 use Rattle.kernel.proofs.Laws.Arms.{carried-as}
 use Rattle.kernel.proofs.Kernel.set_or.Statement.{statement}
@@ -40,7 +41,7 @@ abbrev μ-loop : tie.MeasureT-loop
 abbrev Inv-loop2 : tie.InvT-loop2
 Inv-loop2 flags self₀ t s₀ ids ended h i₀ self s i =
     (i ≤ ended) × (ended ≤ 32) × (length ids ≡ 32) × (length (self .held) ≡ 32)
-    × (withScheduler self s ≡ endEach (withScheduler self₀ s₀) 0 (h .words) (take i ids))
+    × ((by : Cause) → Holds by 0 → withScheduler self s ≡ applied (withScheduler self₀ s₀) (endsEach by (h .words) (take i ids)))
 
 abbrev μ-loop2 : tie.MeasureT-loop2
 μ-loop2 flags self₀ t s₀ ids ended h i₀ self s i = ended - i
@@ -67,14 +68,14 @@ loop-again c =
     )
 
 loop2-holds : tie.Need-loop2-holds Inv-loop μ-loop Inv-loop2 μ-loop2
-unfolding endEach withScheduler lineOf
+unfolding applied endsEach withScheduler lineOf
 loop2-holds c =
     let by = c .before .before .before .before .before .before .before .before .before .woken in
     let z = c .before .before .size .ensures in
     let o : length (by .result .line .ids) ≡ 32 =
     ap (λ (y : Line). length (y .ids)) (by .ensures .0) ∙ length-pad 32 _ in
     let w = length-members (by .result .line) o in
-    (omega arith, omega (arith, z, w), o, held-sized (c .before .before .before .before .before .before .before .before .before .before .before .before .before .before .before), refl)
+    (omega arith, omega (arith, z, w), o, held-sized (c .before .before .before .before .before .before .before .before .before .before .before .before .before .before .before), λ by same. refl)
 
 cast-u : tie.Need-cast-u Inv-loop μ-loop Inv-loop2 μ-loop2
 cast-u c = search (needs, c .before .before .before .before .before .before .before .before .before .before .before .woken .ok .1 .1 .0 .1 .1 .0 .1 .1)
@@ -93,7 +94,7 @@ loop2-again c =
       omega arith,
       l .inv .2,
       simp length-set (l .inv .3),
-      rw (c .before .woken2 .ensures) ((λ j. withHeld (withScheduler (l .self) (woken (l .s) x)) x (g j)) ∙ each-step _ (l .self) (l .s) 0 (v .words) ids (l .i) h (l .inv .4)),
+      λ by same. rw (c .before .woken2 .ensures) ((λ j. withHeld (withScheduler (l .self) (woken (l .s) x)) x (g j)) ∙ each-step by (v .words) _ (l .self) (l .s) 0 ids (l .i) same h (l .inv .4 by same)),
     )
 
 loop2-again-2 : tie.Need-loop2-again-2 Inv-loop μ-loop Inv-loop2 μ-loop2
@@ -109,11 +110,11 @@ loop2-again-2 c =
       omega arith,
       l .inv .2,
       l .inv .3,
-      rw (c .before .woken2 .ensures) (sym o ∙ each-step _ (l .self) (l .s) 0 (v .words) ids (l .i) h (l .inv .4)),
+      λ by same. rw (c .before .woken2 .ensures) (sym o ∙ each-step by (v .words) _ (l .self) (l .s) 0 ids (l .i) same h (l .inv .4 by same)),
     )
 
 returns : tie.Need-returns Inv-loop μ-loop Inv-loop2 μ-loop2
-unfolding setOr holding withGroup lineOf answerOf carried answered withScheduler
+unfolding setOrEffect holding withGroup lineOf withScheduler statusBy endsb
 returns c =
     let at = c .before .before .before .before .before .before .before .before .before .before .before .before in
     let by = at .woken in
@@ -128,7 +129,7 @@ returns c =
     let e : l .t ≡ 32 = omega (arith, l .inv .0, at .before .before .before .before .loop-test .left) in
     let rs = table-all (a .t1) (λ y. y .request) (l .requests) refl (l .inv .1) s (λ j m. l .inv .3 j (omega (arith, m, e))) in
     let os = table-all (a .t1) (λ y. y .option) (l .options) refl (l .inv .2) s (λ j m. l .inv .4 j (omega (arith, m, e))) in
-    let line = lineAt (a .t1 .scheduler) (groupPlace (a .n .0)) in
+    let line = lineAt (a .t1 .scheduler) (placeOf Kind.group (a .n .0)) in
     let m : members (found .result) ≡ line =
     found .ensures .1 ∙ ap (lineAt (a .t1 .scheduler)) (at .before .before .place .ensures) in
     let o = length-members (found .result) (ap (λ (y : Line). length (y .ids)) (found .ensures .0) ∙ length-pad 32 _) in
@@ -154,15 +155,17 @@ returns c =
       pools = a .t1 .pools;
       clock = a .t1 .clock;
     } in
-    let each : withScheduler (p .self) (p .s) ≡ endEach k 0 (two .result) (members (by .result .line)) =
-    p .inv .4
-    ∙ (λ j. endEach k 0 (c .before .before .before .of2 .ensures j .words) (take (p .i) ids))
-    ∙ ap (endEach k 0 (two .result)) (ap (λ (j : ℕ). take j ids) n ∙ members-take (by .result .line)) in
-    let done = c .carried .ensures ∙ carried-as (p .self) (p .s) 0 noWords (members (by .result .line)) each (size .ensures) in
+    let why = Cause.served Kind.group (a .n .0) in
+    let es : List Edit = endsEach why (two .result) (members (by .result .line)) in
+    let each : withScheduler (p .self) (p .s) ≡ applied k es =
+    p .inv .4 why (λ th h. refl)
+    ∙ (λ j. applied k (endsEach why (c .before .before .before .of2 .ensures j .words) (take (p .i) ids)))
+    ∙ ap (λ (xs : List ℕ). applied k (endsEach why (two .result) xs)) (ap (λ (j : ℕ). take j ids) n ∙ members-take (by .result .line)) in
+    let done = c .carried .ensures ∙ carried-as k (p .self) (p .s) es each (size .ensures ∙ sym (ap (λ (xs : List ℕ). length xs) (movers-each why (two .result) endsb (members (by .result .line)) refl))) in
     let stored = c .before .before .before .before .before .before .before .before .before in
     done
     ∙ rw (w, store .ensures, stored .of .ensures, stored .before .less .ensures, x, two .ensures)
-    (ap (λ (y : Kernel). answerOf (carried y 0 noWords u)) (each-object Kind.group (a .t1) (a .n .0) g 0 (oneWord (a .flags)) u))
+    (ap answerOf (closed why (oneWord (a .flags)) Kind.group (a .t1) (a .n .0) g u))
 
 pub set-or-spec : {M : Type 1} → statement M
 set-or-spec =

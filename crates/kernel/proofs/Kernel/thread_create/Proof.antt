@@ -1,12 +1,14 @@
+use Rattle.scheduler.specs.Orders.{joined}
 use mathlib.Core.Path.{_≡_, sym, _∙_}
 use Prim.Native.Nat.{_<_, _≤_}
 use native.Mathlib.Omega.{arith}
 use borrow.Author.Needs.{needs}
 use borrow.Author.Tests.{ltb-true, leb-true}
 use Rattle.calls.specs.Refusals.{createRefusal}
-use Rattle.kernel.specs.Tables.{threadOf, withScheduler, withHeld, given}
-use Rattle.kernel.specs.Answers.{answerOf, carried, answered}
-use Rattle.kernel.specs.Threads.{threadCreate}
+use Rattle.kernel.specs.Tables.{threadOf, withScheduler, withHeld}
+use Rattle.kernel.specs.Answers.{answerOf, answered}
+use Rattle.kernel.specs.Edits.{recordBy, heldBy, frontb, edited, applied, gathered, endsb, statusOf, carriedOut}
+use Rattle.kernel.specs.Threads.{createEffect}
 use Rattle.kernel.proofs.Laws.Answers.{is-carried, first-none, second-none, unless-none}
 use Rattle.kernel.proofs.Laws.Arms.{refused-by}
 use Rattle.kernel.proofs.Kernel.thread_create.Statement.{statement}
@@ -33,7 +35,7 @@ module _ (k : tie.Else1) where
   ordered = leb-true _ _ (unless-none _ 24 (omega arith) (first-none _ _ (second-none _ _ (second-none _ _ (sym (reason (k .before)) ∙ k .if1 .left)))))
 
 returns-2 : tie.Need-returns-2
-unfolding threadCreate given answerOf carried answered withHeld withScheduler
+unfolding carriedOut applied gathered statusOf answerOf answered withScheduler edited recordBy heldBy frontb endsb joined withHeld createEffect
 returns-2 c =
     let k = c .before .before .before .before .before in
     let z = sym (reason (k .before)) ∙ k .if1 .left in
@@ -41,7 +43,6 @@ returns-2 c =
     rw is-carried (c .held-carried .ensures ∙ rw (c .before .moved .ensures, c .before .before .of .ensures, m .created .ensures, m .before .start-state .ensures))
 
 pub thread-create-spec : {M : Type 1} → statement M
-unfolding threadCreate
 thread-create-spec =
     tie.close
     (tie.spec

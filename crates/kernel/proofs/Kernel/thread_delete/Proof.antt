@@ -1,9 +1,11 @@
+use Rattle.scheduler.specs.Orders.{joined}
 use mathlib.Core.Path.{_≡_, sym, _∙_}
 use borrow.Author.Needs.{needs}
 use Rattle.calls.specs.Refusals.{deleteRefusal}
-use Rattle.kernel.specs.Tables.{threadOf, withScheduler, withHeld, given}
-use Rattle.kernel.specs.Answers.{answerOf, carried, answered}
-use Rattle.kernel.specs.Threads.{threadDelete}
+use Rattle.kernel.specs.Tables.{threadOf, withScheduler, withHeld}
+use Rattle.kernel.specs.Answers.{answerOf, answered}
+use Rattle.kernel.specs.Edits.{recordBy, heldBy, frontb, edited, applied, gathered, endsb, statusOf, carriedOut}
+use Rattle.kernel.specs.Threads.{deleteEffect}
 use Rattle.kernel.proofs.Laws.Answers.{is-carried}
 use Rattle.kernel.proofs.Laws.Arms.{refused-by}
 use Rattle.kernel.proofs.Kernel.thread_delete.Statement.{statement}
@@ -15,14 +17,13 @@ module _ (k : tie.After-delete) where
   reason = rw (← k .before .thread-at .ensures) (k .delete .ensures)
 
 returns-2 : tie.Need-returns-2
-unfolding threadDelete given answerOf carried answered withHeld withScheduler
+unfolding carriedOut applied gathered statusOf answerOf answered withScheduler edited recordBy heldBy frontb endsb joined withHeld deleteEffect
 returns-2 c =
     let k = c .before .before .before .before in
     let z = sym (reason (k .before)) ∙ k .if1 .left in
     rw is-carried (c .held-carried .ensures ∙ rw (c .before .moved .ensures, c .before .before .uncreated .ensures, c .before .before .before .of .ensures))
 
 pub thread-delete-spec : {M : Type 1} → statement M
-unfolding threadDelete
 thread-delete-spec =
     tie.close
     (tie.spec

@@ -1,12 +1,14 @@
+use Rattle.scheduler.specs.Changes.{preemptionChanged}
 use mathlib.Core.Path.{_≡_, sym, ap, _∙_}
 use native.Mathlib.Omega.{arith}
 use borrow.Author.Needs.{needs}
 use borrow.Author.Tests.{leb-true}
 use Rattle.scheduler.specs.declared.thread.Thread.{Thread}
 use Rattle.calls.specs.Refusals.{preemptionRefusal}
-use Rattle.kernel.specs.Tables.{threadOf, withScheduler, withHeld, withSemaphore, withClock, given}
-use Rattle.kernel.specs.Answers.{answerOf, carried, answered}
-use Rattle.kernel.specs.Threads.{threadPreemptionChange}
+use Rattle.kernel.specs.Tables.{threadOf, withScheduler}
+use Rattle.kernel.specs.Answers.{answerOf, answered}
+use Rattle.kernel.specs.Edits.{edited, applied, gathered, statusOf, carriedOut}
+use Rattle.kernel.specs.Threads.{preemptionEffect}
 use Rattle.kernel.proofs.Laws.Answers.{is-carried, first-none, second-none, unless-none}
 use Rattle.kernel.proofs.Laws.Arms.{refused-by}
 use Rattle.kernel.proofs.Kernel.thread_preemption_change.Statement.{statement}
@@ -29,15 +31,13 @@ cast-preemption-changed c =
     omega (arith, m, q, c .before .struct-known .given .1 .1 .0)
 
 returns-2 : tie.Need-returns-2
-unfolding threadPreemptionChange answerOf carried answered given withHeld withScheduler withSemaphore withClock
+unfolding carriedOut applied gathered statusOf answerOf answered withScheduler edited preemptionEffect preemptionChanged
 returns-2 c =
     let k = c .before .before .before .before in
     let z = sym (reason (k .before)) ∙ k .if1 .left in
-    rw (is-carried, ← k .before .before .thread-at .ensures)
-    (c .carried .ensures ∙ rw (c .before .preemption-changed .ensures, c .before .before .two-words .ensures))
+    rw is-carried (c .carried .ensures ∙ rw (c .before .preemption-changed .ensures, c .before .before .two-words .ensures, k .before .before .thread-at .ensures))
 
 pub thread-preemption-change-spec : {M : Type 1} → statement M
-unfolding threadPreemptionChange
 thread-preemption-change-spec =
     tie.close
     (tie.spec

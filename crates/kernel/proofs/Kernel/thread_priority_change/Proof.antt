@@ -1,11 +1,17 @@
+use Rattle.scheduler.specs.Orders.{joined}
+use Rattle.scheduler.specs.Changes.{priorityChanged}
+use Rattle.scheduler.specs.Threads.{readyb}
+use Rattle.lines.proofs.Laws.Logic.{by-test}
+use lib.Seq.{set-getD}
 use mathlib.Core.Path.{_≡_, sym, _∙_}
 use native.Mathlib.Omega.{arith}
 use borrow.Author.Needs.{needs}
 use borrow.Author.Tests.{ltb-true}
 use Rattle.calls.specs.Refusals.{priorityRefusal}
-use Rattle.kernel.specs.Tables.{threadOf, withScheduler, withHeld, withSemaphore, withClock, given}
-use Rattle.kernel.specs.Answers.{answerOf, carried, answered}
-use Rattle.kernel.specs.Threads.{threadPriorityChange}
+use Rattle.kernel.specs.Tables.{threadOf, heldAt, withScheduler, withHeld}
+use Rattle.kernel.specs.Answers.{answerOf, answered}
+use Rattle.kernel.specs.Edits.{recordBy, heldBy, frontb, edited, applied, gathered, endsb, statusOf, carriedOut}
+use Rattle.kernel.specs.Threads.{priorityEffect}
 use Rattle.kernel.proofs.Laws.Answers.{is-carried, first-none, second-none, unless-none}
 use Rattle.kernel.proofs.Laws.Arms.{refused-by}
 use Rattle.kernel.proofs.Kernel.thread_priority_change.Statement.{statement}
@@ -27,15 +33,17 @@ cast-priority-changed c =
     omega (arith, l)
 
 returns-2 : tie.Need-returns-2
-unfolding threadPriorityChange answerOf carried answered given withHeld withScheduler withSemaphore withClock
+unfolding carriedOut applied gathered statusOf answerOf answered withScheduler edited recordBy heldBy frontb endsb joined withHeld priorityEffect priorityChanged heldAt
 returns-2 c =
     let k = c .before .before .before .before in
     let z = sym (reason (k .before)) ∙ k .if1 .left in
-    rw (is-carried, ← k .before .before .thread-at .ensures)
-    (c .carried .ensures ∙ rw (c .before .priority-changed .ensures, c .before .before .two-words .ensures))
+    let a = k .before .before .before .before .args in
+    let th = threadOf (a .self) (a .t .0) in
+    rw is-carried
+    (c .carried .ensures ∙ rw (c .before .priority-changed .ensures, c .before .before .two-words .ensures, k .before .before .thread-at .ensures)
+    (by-test (readyb th) (λ r. rw (r, set-getD)) (λ r. rw r)))
 
 pub thread-priority-change-spec : {M : Type 1} → statement M
-unfolding threadPriorityChange
 thread-priority-change-spec =
     tie.close
     (tie.spec

@@ -1,22 +1,25 @@
+use Rattle.scheduler.specs.Orders.{joined}
+use Rattle.scheduler.specs.Choice.{relinquished}
+use lib.Seq.{set-getD}
 use mathlib.Core.Path.{sym, _∙_}
 use borrow.Author.Needs.{needs}
-use Rattle.kernel.specs.Tables.{withScheduler, withHeld, withSemaphore, withClock, given}
-use Rattle.kernel.specs.Answers.{answerOf, carried, answered}
-use Rattle.kernel.specs.Threads.{threadRelinquish}
+use Rattle.kernel.specs.Tables.{heldAt, withScheduler, withHeld}
+use Rattle.kernel.specs.Answers.{answerOf, answered}
+use Rattle.kernel.specs.Edits.{recordBy, heldBy, frontb, edited, applied, gathered, endsb, statusOf, carriedOut}
+use Rattle.kernel.specs.Threads.{relinquishEffect}
 use Rattle.kernel.proofs.Laws.Answers.{is-carried}
 use Rattle.kernel.proofs.Laws.Arms.{refused-by}
 use Rattle.kernel.proofs.Kernel.thread_relinquish.Statement.{statement}
 use Rattle.kernel.proofs.Kernel.thread_relinquish.Tie as tie
 
 returns-2 : tie.Need-returns-2
-unfolding threadRelinquish answerOf carried answered given withHeld withScheduler withSemaphore withClock
+unfolding carriedOut applied gathered statusOf answerOf answered withScheduler edited recordBy heldBy frontb endsb joined withHeld relinquishEffect relinquished heldAt
 returns-2 c =
     let k = c .before .before .before in
     let z = sym (k .before .thread-only .ensures) ∙ k .if1 .left in
-    rw is-carried (rw (c .before .relinquished .ensures))
+    rw is-carried (rw (c .before .relinquished .ensures, set-getD))
 
 pub thread-relinquish-spec : {M : Type 1} → statement M
-unfolding threadRelinquish
 thread-relinquish-spec =
     tie.close
     (tie.spec

@@ -1,9 +1,11 @@
+use Rattle.scheduler.specs.Orders.{joined}
 use mathlib.Core.Path.{_≡_, sym, _∙_}
 use borrow.Author.Needs.{needs}
 use Rattle.calls.specs.Refusals.{resetRefusal}
-use Rattle.kernel.specs.Tables.{threadOf, withScheduler, withHeld, given}
-use Rattle.kernel.specs.Answers.{answerOf, carried, answered}
-use Rattle.kernel.specs.Threads.{threadReset}
+use Rattle.kernel.specs.Tables.{threadOf, withScheduler, withHeld}
+use Rattle.kernel.specs.Answers.{answerOf, answered}
+use Rattle.kernel.specs.Edits.{recordBy, heldBy, frontb, edited, applied, gathered, endsb, statusOf, carriedOut}
+use Rattle.kernel.specs.Threads.{restEffect}
 use Rattle.kernel.proofs.Laws.Answers.{is-carried}
 use Rattle.kernel.proofs.Laws.Arms.{refused-by}
 use Rattle.kernel.proofs.Kernel.thread_reset.Statement.{statement}
@@ -15,7 +17,7 @@ module _ (k : tie.After-reset) where
   reason = rw (← k .before .thread-at .ensures) (k .reset .ensures)
 
 returns-2 : tie.Need-returns-2
-unfolding threadReset given answerOf carried answered withHeld withScheduler
+unfolding carriedOut applied gathered statusOf answerOf answered withScheduler edited recordBy heldBy frontb endsb joined withHeld restEffect
 returns-2 c =
     let k = c .before .before .before .before in
     let z = sym (reason (k .before)) ∙ k .if1 .left in
@@ -23,7 +25,6 @@ returns-2 c =
     (c .held-carried .ensures ∙ rw (c .before .moved .ensures, c .before .before .of .ensures, c .before .before .before .in-state .ensures))
 
 pub thread-reset-spec : {M : Type 1} → statement M
-unfolding threadReset
 thread-reset-spec =
     tie.close
     (tie.spec

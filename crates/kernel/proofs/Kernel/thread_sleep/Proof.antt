@@ -1,3 +1,5 @@
+use Rattle.scheduler.specs.Orders.{joined}
+use Rattle.calls.specs.Refusals.{threadOnlyRefusal}
 use borrow.Author.Needs.{needs}
 use mathlib.Core.Path.{_≡_, sym, _∙_}
 use mathlib.Core.Logic.{⊎-elim}
@@ -6,23 +8,23 @@ use lib.ListN.{length}
 use Rattle.scheduler.proofs.Laws.Threads.{length-mapped}
 use Rattle.calls.specs.Held.{noWords, waiting}
 use Rattle.kernel.specs.Tables.{withScheduler, withHeld}
-use Rattle.kernel.specs.Answers.{answerOf, carried, answered}
-use Rattle.kernel.specs.Waits.{startWait}
-use Rattle.kernel.specs.Threads.{threadSleep}
+use Rattle.kernel.specs.Answers.{answerOf, answered}
+use Rattle.kernel.specs.Edits.{recordBy, heldBy, frontb, edited, applied, gathered, endsb, statusOf, carriedOut, guarded}
+use Rattle.kernel.specs.Threads.{sleepEffect}
 use Rattle.kernel.proofs.Laws.Answers.{is-carried, held-out}
 use Rattle.kernel.proofs.Laws.Arms.{refused-by}
 use Rattle.kernel.proofs.Kernel.thread_sleep.Statement.{statement}
 use Rattle.kernel.proofs.Kernel.thread_sleep.Tie as tie
 
 returns-2 : tie.Need-returns-2
-unfolding threadSleep startWait answerOf carried answered withScheduler withHeld
+unfolding carriedOut applied gathered statusOf answerOf answered withScheduler edited recordBy heldBy frontb endsb joined withHeld sleepEffect
 returns-2 c =
     let k = c .before .before .before in
     let a = k .before .before .args in
     let z = sym (k .before .thread-only .ensures) ∙ k .if1 .left in
     let l : length (a .t1 .held) ≡ 32 = search length-mapped in
     let d = c .before .if2 in
-    let m : answered (d .self) (d .s) (d .status) noWords 0 ≡ answerOf (threadSleep (a .t1) (a .caller) (a .ticks)) =
+    let m : answered (d .self) (d .s) (d .status) noWords 0 ≡ answerOf (guarded (a .t1) (threadOnlyRefusal (a .caller)) (sleepEffect (a .t1) (a .ticks))) =
     ⊎-elim
     (λ w. rw (w .6, w .7, w .8, is-carried, ne-eqb (a .ticks) 0 (w .0 .taken), w .3 .ensures, w .5 .ensures))
     (λ w. ⊎-elim
@@ -35,7 +37,6 @@ returns-2 c =
     c .carried .ensures ∙ m
 
 pub thread-sleep-spec : {M : Type 1} → statement M
-unfolding threadSleep
 thread-sleep-spec =
     tie.close
     (tie.spec

@@ -1,9 +1,10 @@
 use mathlib.Core.Path.{_≡_, sym, _∙_}
 use borrow.Author.Needs.{needs}
 use Rattle.calls.specs.Refusals.{readRefusal}
-use Rattle.kernel.specs.Tables.{threadOf, heldAt, withScheduler, withHeld, withSemaphore, withClock, given}
-use Rattle.kernel.specs.Answers.{answerOf, carried, answered}
-use Rattle.kernel.specs.Threads.{threadStateRead}
+use Rattle.kernel.specs.Tables.{threadOf, heldAt, withScheduler}
+use Rattle.kernel.specs.Answers.{answerOf, answered}
+use Rattle.kernel.specs.Edits.{applied, gathered, statusOf, carriedOut}
+use Rattle.kernel.specs.Threads.{stateEffect}
 use Rattle.kernel.proofs.Laws.Answers.{is-carried}
 use Rattle.kernel.proofs.Laws.Arms.{refused-by}
 use Rattle.kernel.proofs.Kernel.thread_state_read.Statement.{statement}
@@ -15,7 +16,7 @@ module _ (k : tie.After-read) where
   reason = rw (← k .before .thread-at .ensures) (k .read .ensures)
 
 returns-2 : tie.Need-returns-2
-unfolding threadStateRead answerOf carried answered given withHeld withScheduler withSemaphore withClock heldAt
+unfolding carriedOut applied gathered statusOf answerOf answered withScheduler stateEffect heldAt
 returns-2 c =
     let k = c .before .before .before .before .before in
     let z = sym (reason (k .before)) ∙ k .if1 .left in
@@ -23,7 +24,6 @@ returns-2 c =
     (c .carried .ensures ∙ rw (c .before .two-words .ensures, c .before .before .before .held-in .ensures))
 
 pub thread-state-read-spec : {M : Type 1} → statement M
-unfolding threadStateRead
 thread-state-read-spec =
     tie.close
     (tie.spec

@@ -1,9 +1,12 @@
+use Rattle.scheduler.specs.Orders.{joined}
+use lib.Seq.{set-getD}
 use mathlib.Core.Path.{_≡_, sym, _∙_}
 use borrow.Author.Needs.{needs}
 use Rattle.calls.specs.Refusals.{suspendRefusal}
-use Rattle.kernel.specs.Tables.{threadOf, withScheduler, withHeld, withSemaphore, withClock, given}
-use Rattle.kernel.specs.Answers.{answerOf, carried, answered}
-use Rattle.kernel.specs.Threads.{threadSuspend}
+use Rattle.kernel.specs.Tables.{threadOf, heldAt, withScheduler, withHeld}
+use Rattle.kernel.specs.Answers.{answerOf, answered}
+use Rattle.kernel.specs.Edits.{recordBy, heldBy, frontb, edited, applied, gathered, endsb, statusOf, carriedOut}
+use Rattle.kernel.specs.Threads.{suspendEffect}
 use Rattle.kernel.proofs.Laws.Answers.{is-carried}
 use Rattle.kernel.proofs.Laws.Arms.{refused-by}
 use Rattle.kernel.proofs.Kernel.thread_suspend.Statement.{statement}
@@ -15,25 +18,25 @@ module _ (k : tie.After-suspend) where
   reason = rw (← k .before .thread-at .ensures) (k .suspend .ensures)
 
 returns-2 : tie.Need-returns-2
-unfolding threadSuspend answerOf carried answered given withHeld withScheduler withSemaphore withClock
+unfolding carriedOut applied gathered statusOf answerOf answered withScheduler edited suspendEffect
 returns-2 c =
     let k = c .before .before .before .before .before in
     let z = sym (reason (k .before)) ∙ k .if1 .left in
     rw (is-carried, ← k .before .before .thread-at .ensures, ← c .before .before .before .before .is-paused .ensures, c .before .before .before .if2 .taken)
-    (c .carried .ensures ∙ rw (c .before .with-thread .ensures, c .before .before .with-suspension .ensures))
+    (c .carried .ensures ∙ rw (c .before .with-thread .ensures, c .before .before .with-suspension .ensures, k .before .before .thread-at .ensures))
 
 returns-3 : tie.Need-returns-3
-unfolding threadSuspend answerOf carried answered given withHeld withScheduler withSemaphore withClock
+unfolding carriedOut applied gathered statusOf answerOf answered withScheduler edited recordBy heldBy frontb endsb joined withHeld suspendEffect heldAt
 returns-3 c =
     let k = c .before .before .before .before .before .before .before in
     let z = sym (reason (k .before)) ∙ k .if1 .left in
     let o = c .before .before .before in
     let p = o .before .before in
     rw (is-carried, ← k .before .before .thread-at .ensures, ← p .before .is-paused .ensures, p .if2 .left, ← o .before .is-ready .ensures, o .if3 .taken)
-    (c .carried2 .ensures ∙ rw (c .before .moved .ensures, c .before .before .in-state .ensures))
+    (c .carried2 .ensures ∙ rw (c .before .moved .ensures, c .before .before .in-state .ensures, k .before .before .thread-at .ensures, set-getD))
 
 returns-4 : tie.Need-returns-4
-unfolding threadSuspend answerOf carried answered given withHeld withScheduler withSemaphore withClock
+unfolding carriedOut applied gathered statusOf answerOf answered withScheduler suspendEffect
 returns-4 c =
     let k = c .before .before .before .before .before in
     let z = sym (reason (k .before)) ∙ k .if1 .left in
@@ -43,7 +46,6 @@ returns-4 c =
     (c .carried3 .ensures)
 
 pub thread-suspend-spec : {M : Type 1} → statement M
-unfolding threadSuspend
 thread-suspend-spec =
     tie.close
     (tie.spec

@@ -1,10 +1,12 @@
+use Rattle.scheduler.specs.Orders.{joined}
+use Rattle.scheduler.specs.Orders.{woken}
 use mathlib.Core.Path.{_≡_, sym, _∙_}
 use borrow.Author.Needs.{needs}
 use Rattle.calls.specs.Refusals.{abortRefusal}
 use Rattle.kernel.specs.Tables.{threadOf, withScheduler, withHeld}
-use Rattle.kernel.specs.Answers.{answerOf, carried, answered}
-use Rattle.kernel.specs.Waits.{endWait}
-use Rattle.kernel.specs.Threads.{threadWaitAbort}
+use Rattle.kernel.specs.Answers.{answerOf, answered}
+use Rattle.kernel.specs.Edits.{statusBy, recordBy, heldBy, frontb, edited, applied, gathered, endsb, statusOf, carriedOut}
+use Rattle.kernel.specs.Threads.{abortEffect}
 use Rattle.kernel.proofs.Laws.Answers.{is-carried}
 use Rattle.kernel.proofs.Laws.Arms.{refused-by}
 use Rattle.kernel.proofs.Kernel.thread_wait_abort.Statement.{statement}
@@ -16,14 +18,13 @@ module _ (k : tie.After-abort) where
   reason = rw (← k .before .thread-at .ensures) (k .abort .ensures)
 
 returns-2 : tie.Need-returns-2
-unfolding threadWaitAbort endWait answerOf carried answered withHeld withScheduler
+unfolding carriedOut applied gathered statusOf answerOf answered withScheduler edited recordBy heldBy frontb endsb joined withHeld statusBy woken abortEffect
 returns-2 c =
     let k = c .before .before .before in
     let z = sym (reason (k .before)) ∙ k .if1 .left in
     rw is-carried (c .held-carried .ensures ∙ rw (c .before .woken .ensures, c .before .before .of .ensures))
 
 pub thread-wait-abort-spec : {M : Type 1} → statement M
-unfolding threadWaitAbort
 thread-wait-abort-spec =
     tie.close
     (tie.spec

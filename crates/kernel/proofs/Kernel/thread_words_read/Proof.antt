@@ -1,9 +1,10 @@
 use mathlib.Core.Path.{_≡_, sym, _∙_}
 use borrow.Author.Needs.{needs}
 use Rattle.calls.specs.Refusals.{readRefusal}
-use Rattle.kernel.specs.Tables.{threadOf, heldAt, withScheduler, withHeld, withSemaphore, withClock, given}
-use Rattle.kernel.specs.Answers.{answerOf, carried, answered}
-use Rattle.kernel.specs.Threads.{threadWordsRead}
+use Rattle.kernel.specs.Tables.{threadOf, heldAt, withScheduler}
+use Rattle.kernel.specs.Answers.{answerOf, answered}
+use Rattle.kernel.specs.Edits.{applied, gathered, statusOf, carriedOut}
+use Rattle.kernel.specs.Threads.{wordsEffect}
 use Rattle.kernel.proofs.Laws.Answers.{is-carried}
 use Rattle.kernel.proofs.Laws.Arms.{refused-by}
 use Rattle.kernel.proofs.Kernel.thread_words_read.Statement.{statement}
@@ -15,14 +16,13 @@ module _ (k : tie.After-read) where
   reason = rw (← k .before .thread-at .ensures) (k .read .ensures)
 
 returns-2 : tie.Need-returns-2
-unfolding threadWordsRead answerOf carried answered given withHeld withScheduler withSemaphore withClock heldAt
+unfolding carriedOut applied gathered statusOf answerOf answered withScheduler wordsEffect heldAt
 returns-2 c =
     let k = c .before .before .before .before in
     let z = sym (reason (k .before)) ∙ k .if1 .left in
     rw is-carried (c .carried .ensures ∙ rw (c .before .before .held-in .ensures))
 
 pub thread-words-read-spec : {M : Type 1} → statement M
-unfolding threadWordsRead
 thread-words-read-spec =
     tie.close
     (tie.spec

@@ -1,5 +1,5 @@
 use mathlib.Core.Path.{refl}
-use Rattle.kernel.specs.Semaphores.{counting}
+use Rattle.kernel.specs.Effects.{counting}
 use Rattle.kernel.proofs.semaphores.counting.Statement.{statement}
 use Rattle.kernel.proofs.semaphores.counting.Tie as tie
 
