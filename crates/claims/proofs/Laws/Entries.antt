@@ -15,8 +15,10 @@ use Rattle.kernel.proofs.Laws.Edits
 use Rattle.kernel.proofs.Laws.Objects
 use Rattle.kernel.proofs.Laws.Lines
 use Rattle.kernel.proofs.Laws.Does
+use Rattle.scheduler.specs.declared.Scheduler.{Scheduler}
 use Rattle.kernel.specs.declared.Kernel.{Kernel}
 use Rattle.kernel.specs.declared.Answer.{Answer}
+use Rattle.kernel.specs.Tables.{withScheduler}
 use Rattle.kernel.specs.Answers.{Outcome, answerOf, refused}
 use Rattle.kernel.specs.Kinds.{Kind, Object, sizeOf, stateOn, placeOf, objectAt, createdb}
 use Rattle.kernel.specs.Kinds.Kind.{semaphore, queue, group, pool}
@@ -110,13 +112,11 @@ record-moved d n k t m = Objects.same-object d k _ (Objects.table-held _ t _ d �
 
 record-edit : (d : Kind) (n : ℕ) (k : Kernel) (e : Edit) → apartb (placeOf d n) e ≡ true → objectAt d (edited k e) n ≡ objectAt d k n
 unfolding edited apartb
-record-edit d n k (moves t m) y = record-moved d n k t m
-record-edit d n k (alters t f) y = Objects.same-object d k _ (Objects.table-scheduler k _ d) n
-record-edit d n k (counts t) y = Objects.same-object d k _ (Objects.table-scheduler k _ d) n
-record-edit d n k (ranks e i) y = Objects.same-object d k _ (Objects.table-scheduler k _ d) n
-record-edit d n k (stores e i x) y =
-    Objects.stored-elsewhere e k i x d n (λ z w. never y (ap not (Lines.place-same (placeOf d n) (placeOf e i) (λ j. record { state = stateOn (z j); number = w j }))))
-record-edit d n k (sets c) y = Objects.same-object d k _ (Objects.table-clock k c d) n
+record-edit d n k e =
+    let same : (s : Scheduler) → objectAt d (withScheduler k s) n ≡ objectAt d k n = λ s. Objects.same-object d k _ (Objects.table-scheduler k s d) n in
+    Edits.by-edit (λ e. apartb (placeOf d n) e ≡ true → objectAt d (edited k e) n ≡ objectAt d k n) (λ t m y. record-moved d n k t m) (λ t f y. same _) (λ t y. same _) (λ c i y. same _)
+    (λ c i x y. Objects.stored-elsewhere c k i x d n (λ z w. never y (ap not (Lines.place-same (placeOf d n) (placeOf c i) (λ j. record { state = stateOn (z j); number = w j })))))
+    (λ c y. Objects.same-object d k _ (Objects.table-clock k c d) n) e
 
 record-all : (d : Kind) (n : ℕ) (k : Kernel) (es : List Edit) → allb (apartb (placeOf d n)) es ≡ true → objectAt d (applied k es) n ≡ objectAt d k n
 unfolding applied

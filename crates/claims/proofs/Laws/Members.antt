@@ -53,7 +53,7 @@ unfolding names rollOf
 names-roll k [] = refl
 names-roll k (u ∷ us) = ap {B = List ℕ} (λ l. u ∷ l) (names-roll k us)
 
-in-tail : (u : ℕ) (us : List ℕ) (v : ℕ) → 0 < count v us → 0 < count v (u ∷ us)
+pub in-tail : (u : ℕ) (us : List ℕ) (v : ℕ) → 0 < count v us → 0 < count v (u ∷ us)
 unfolding count
 in-tail u us v c = omega (arith, c)
 

@@ -10,10 +10,9 @@ use lib.Seq.{getD-set-same}
 use borrow.Author.Tests.{eqb-true, ltb-true, eq-eqb}
 use Rattle.lines.specs.Logic.{if_then_else_, implies}
 use Rattle.lines.specs.Lists.{count, without, Begins, less}
-use Rattle.lines.proofs.Laws.Logic.{by-test, by-eq, by-choice, never, and-left, and-right, and-in, or-rest, implies-out}
+use Rattle.lines.proofs.Laws.Logic.{by-test, by-eq, by-choice, never, and-left, and-right, and-in, or-rest}
 use Rattle.lines.proofs.Laws.Lists
 use Rattle.lines.proofs.Laws.Less
-use Rattle.scheduler.specs.declared.thread.Thread.{Thread}
 use Rattle.scheduler.specs.declared.thread.Place.{Place}
 use Rattle.scheduler.specs.Threads.{onQueue, placedb, inState}
 use Rattle.scheduler.specs.Orders.{lineAt, firstAt}
@@ -22,7 +21,6 @@ use Rattle.calls.specs.declared.held.Held.{Held}
 use Rattle.calls.specs.Held.{noHeld, holding}
 use Rattle.calls.specs.Refusals.{finishedb}
 use Rattle.calls.specs.Statuses as Statuses
-use Rattle.waiting.specs.Fit.{blankFrom, waitsOnb, sendsb, statusFitb, wordsFitb, senderFitb, requestFitb, unheldFitb, heldFitb}
 use Rattle.kernel.proofs.Laws.Edits
 use Rattle.kernel.proofs.Laws.Objects
 use Rattle.kernel.proofs.Laws.Fits
@@ -50,6 +48,7 @@ use Rattle.claims.specs.Rolls.{Entry, names, rest, each, unnamed, ticked
 use Rattle.claims.proofs.Laws.Steps.{stepped, target, answer-is, next-sound}
 use Rattle.claims.proofs.Laws.Members
 use Rattle.claims.proofs.Laws.Serving
+use Rattle.claims.proofs.Laws.Served.{waiter-takes}
 
 -- the thread's wait lasts: it is in the roll, and waits to take
 pub record Lasts (d : Kind) (n t : ℕ) (k : Kernel) (r : List Entry) : Type 0 where
@@ -271,14 +270,6 @@ module _ (d : Kind) (o : rolledb d ≡ true) (n t : ℕ) (k : Kernel) (r : List 
           record { sound = next-sound k (L .sound) m; rolls = next-passes .rolls; stands = c; takes = ap (λ (h : Held). h .sending) (next-passes .held t c) ∙ L .takes }
 
 -- ---- the start
--- only who waits on a queue sends
-sends-queue : (th : Thread) (h : Held) → heldFitb th h ≡ true → h .sending ≡ true → th .state ≡ onQueue
-unfolding heldFitb senderFitb waitsOnb
-sends-queue th h f s =
-    let fits = and-right (statusFitb th h && wordsFitb th h) (senderFitb th h) (and-left _ (requestFitb th h) (and-left _ (unheldFitb th h) f)) in
-    let w = implies-out (h .sending) (waitsOnb onQueue th) (and-left _ (implies (h .front) (sendsb th h)) (and-left _ (sendsb th h || blankFrom 0 (h .message)) fits)) s in
-    eqb-true (th .state) onQueue (and-right (th .created) (eqb (th .state) onQueue) w)
-
 pub start : (d : Kind) (n : ℕ) (k : Kernel) → Sound k → (ahead : List ℕ) (t : ℕ) → Waits k d n ahead t → Lasts d n t k (startRoll k ahead t)
 start d n k S ahead t W =
     let xs = ahead ++ (t ∷ []) in
@@ -286,12 +277,9 @@ start d n k S ahead t W =
     let F = S .fit in
     let c = Members.stands-last ahead t in
     let y = Fits.line-placed (k .scheduler) (F .steady) p t (let b = Lists.begins-count xs (lineAt (k .scheduler) p) (W .line) t in omega (arith, b, c)) in
-    let small = States.created-small (k .scheduler) (F .steady) t (Fits.placed-made p (threadOf k t) y) in
     record {
       sound = S;
       rolls = record { begins = rw (Members.names-roll k xs) (W .line); agrees = ap (rollOf k) (sym (Members.names-roll k xs)) };
       stands = rw (Members.names-roll k xs) c;
-      takes = by-test (heldAt k t .sending)
-          (λ s. W .receives (Objects.same-kind d Kind.queue (sym (Fits.placed-state p (threadOf k t) y) ∙ sends-queue (threadOf k t) (heldAt k t) (F .held t small) s)))
-          (λ s. s);
+      takes = by-eq (stateOn d) onQueue (λ z. W .receives (Objects.same-kind d Kind.queue z)) (λ z. waiter-takes d n k F z t y);
     }

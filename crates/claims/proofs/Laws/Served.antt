@@ -42,17 +42,15 @@ use Rattle.kernel.specs.Edits.Edit.{moves, alters, counts, ranks, stores, sets}
 use Rattle.kernel.specs.Roles.{allb}
 use Rattle.kernel.specs.Effects.{waitedb}
 use Rattle.claims.specs.Accounts.{servedb}
+use Rattle.claims.proofs.Laws.Members
 
 -- ---- lists
-in-tail : (x : ℕ) (xs : List ℕ) (u : ℕ) → 0 < count u xs → 0 < count u (x ∷ xs)
-in-tail x xs u c = let s = Lists.count-append u (x ∷ []) xs in omega (arith, s, c)
-
 -- a test that holds of nobody in a list
 filter-none : (f : ℕ → Bool) (xs : List ℕ) → ((u : ℕ) → 0 < count u xs → f u ≡ false) → length (filter f xs) ≡ 0
 unfolding filter
 filter-none f [] h = refl
 filter-none f (x ∷ xs) h =
-    ap length (Lists.filter-no f x xs (h x (let c = Lists.count-here x xs in omega (arith, c)))) ∙ filter-none f xs (λ u c. h u (in-tail x xs u c))
+    ap length (Lists.filter-no f x xs (h x (let c = Lists.count-here x xs in omega (arith, c)))) ∙ filter-none f xs (λ u c. h u (Members.in-tail x xs u c))
 
 -- a test that holds of the first alone
 filter-first : (f : ℕ → Bool) (xs : List ℕ) → first xs < 32 → count (first xs) xs ≤ 1 → f (first xs) ≡ true → ((u : ℕ) → 0 < count u xs → (u ≡ first xs → ⊥) → f u ≡ false) → length (filter f xs) ≡ 1
@@ -60,7 +58,7 @@ unfolding first
 filter-first f [] l one is others = absurd (omega (arith, l))
 filter-first f (x ∷ xs) l one is others =
     ap length (Lists.filter-yes f x xs is)
-    ∙ ap suc (filter-none f xs (λ u c. others u (in-tail x xs u c) (λ q. let h = Lists.count-here x xs in let e = ap (λ (v : ℕ). count v xs) q in omega (arith, c, h, e, one))))
+    ∙ ap suc (filter-none f xs (λ u c. others u (Members.in-tail x xs u c) (λ q. let h = Lists.count-here x xs in let e = ap (λ (v : ℕ). count v xs) q in omega (arith, c, h, e, one))))
 
 -- ---- tests
 -- who holds another status is not served

@@ -31,7 +31,7 @@ use Rattle.kernel.specs.Sound.{Fit}
 use Rattle.kernel.specs.Edits.{Move, recordBy, frontb, Edit, edited, applied, gathered, mover, movers, anyb, countedBy, counted, sameb, leavesb, lineBy, linesBy, Effect, carriedOut}
 use Rattle.kernel.specs.Edits.Cause.{served, deleted, timedOut, aborted}
 use Rattle.kernel.specs.Edits.Move.{ends, starts, stops, turns}
-use Rattle.kernel.specs.Edits.Edit.{moves, alters, counts, ranks, stores, sets}
+use Rattle.kernel.specs.Edits.Edit.{moves, counts}
 use Rattle.kernel.specs.Roles.{rowOf, oneOf, kindOf, limitOf, mayMoveb, mayb, allb}
 use Rattle.kernel.specs.Uses.{Creates, Takes, Gives, Empties, Role}
 use Rattle.claims.specs.Lists.{Request}
@@ -45,15 +45,10 @@ none-move : (c : Move → Bool) (f : Edit → Bool) → ((t : ℕ) (m : Move) �
     → (es : List Edit) → allb f es ≡ true → (movers c es ≡ []) × (counted es ≡ [])
 unfolding gathered
 none-move c f h g [] a = (refl, refl)
-none-move c f h g (e ∷ es) a = both e (Edits.all-first f e es a) (none-move c f h g es (Edits.all-rest f e es a))
-  where
-    both : (e : Edit) → f e ≡ true → (movers c es ≡ []) × (counted es ≡ []) → (movers c (e ∷ es) ≡ []) × (counted (e ∷ es) ≡ [])
-    both (moves t m) y r = (rw (h t m y) (r .0), r .1)
-    both (alters t s) y r = r
-    both (counts t) y r = absurd (g t y)
-    both (ranks d n) y r = r
-    both (stores d n x) y r = r
-    both (sets n) y r = r
+none-move c f h g (e ∷ es) a =
+    let r = none-move c f h g es (Edits.all-rest f e es a) in
+    Edits.by-edit (λ e. f e ≡ true → (movers c (e ∷ es) ≡ []) × (counted (e ∷ es) ≡ []))
+    (λ t m y. (rw (h t m y) (r .0), r .1)) (λ t s y. r) (λ t y. absurd (g t y)) (λ d n y. r) (λ d n x y. r) (λ n y. r) e (Edits.all-first f e es a)
 
 pub all-from : (f g : Edit → Bool) → ((e : Edit) → f e ≡ true → g e ≡ true) → (es : List Edit) → allb f es ≡ true → allb g es ≡ true
 unfolding allb
@@ -65,16 +60,11 @@ module _ (p : Place) (waiters : 4 < p .state) where
   -- who stands there and does not leave is not moved
   unmoved : (k : Kernel) (e : Edit) → Fits.Requires k e → (u : ℕ) → placedb p (threadOf k u) ≡ true → count u (movers (leavesb p) (e ∷ [])) ≡ 0 → count u (movers anyb (e ∷ [])) ≡ 0
   unfolding gathered
-  unmoved k (moves t m) G u y z =
-      by-test (leavesb p m) (λ l. rw l at z)
-      (λ l. by-eq t u
-      (λ q. never (ap (λ (v : ℕ). placedb p (threadOf k v)) q ∙ y) (Lines.away p waiters m (threadOf k t) (G .was) l))
-      (λ q. Lists.count-there u t [] q ∙ Less.count-none u))
-  unmoved k (alters t f) G u y z = z
-  unmoved k (counts t) G u y z = z
-  unmoved k (ranks d n) G u y z = z
-  unmoved k (stores d n x) G u y z = z
-  unmoved k (sets c) G u y z = z
+  unmoved k e G u y =
+      Edits.by-edit (λ e. Fits.Requires k e → count u (movers (leavesb p) (e ∷ [])) ≡ 0 → count u (movers anyb (e ∷ [])) ≡ 0)
+      (λ t m G z. by-test (leavesb p m) (λ l. rw l at z)
+      (λ l. by-eq t u (λ q. never (ap (λ (v : ℕ). placedb p (threadOf k v)) q ∙ y) (Lines.away p waiters m (threadOf k t) (G .was) l)) (λ q. Lists.count-there u t [] q ∙ Less.count-none u)))
+      (λ t f G z. z) (λ t G z. z) (λ d n G z. z) (λ d n x G z. z) (λ c G z. z) e G
 
   -- and keeps what it holds, in tables y that differ by the choice
   kept-all : (k y : Kernel) → Steady (k .scheduler) → (es : List Edit) → Fits.RequiresAll k es → (u : ℕ) → Changes.Kept (applied k es) y u 0 → placedb p (threadOf k u) ≡ true → count u (movers (leavesb p) es) ≡ 0 → Changes.Kept k y u (count u (counted es))
@@ -195,12 +185,9 @@ module _ (d : Kind) (n : ℕ) (small : n < sizeOf d) (m : Request) where
   module _ (kept-order : prioritisesOrDeletesb d n m ≡ false) where
     unranked : (e : Edit) → mayb (m .number) (target m) e ≡ true → Lines.unrankedb p e ≡ true
     unfolding mayb Lines.unrankedb prioritisesOrDeletesb
-    unranked (ranks c i) y = ap not (elsewhere c i (λ b. rowOf b .prioritises) (own-row d .4) (or-false _ _ kept-order .0) (and-left _ _ y) (and-right (eqb i (target m)) _ y))
-    unranked (moves t x) y = refl
-    unranked (alters t f) y = refl
-    unranked (counts t) y = refl
-    unranked (stores c i x) y = refl
-    unranked (sets i) y = refl
+    unranked =
+        Edits.by-edit (λ e. mayb (m .number) (target m) e ≡ true → Lines.unrankedb p e ≡ true) (λ t x y. refl) (λ t f y. refl) (λ t y. refl)
+        (λ c i y. ap not (elsewhere c i (λ b. rowOf b .prioritises) (own-row d .4) (or-false _ _ kept-order .0) (and-left _ _ y) (and-right (eqb i (target m)) _ y))) (λ c i x y. refl) (λ i y. refl)
 
     pub all-unranked : (es : List Edit) → allb (mayb (m .number) (target m)) es ≡ true → allb (Lines.unrankedb p) es ≡ true
     all-unranked = all-from (mayb (m .number) (target m)) (Lines.unrankedb p) unranked

@@ -14,12 +14,12 @@ use Rattle.calls.specs.declared.call.Call.{Call}
 use Rattle.calls.specs.declared.call.Decoded.{Decoded}
 use Rattle.calls.specs.declared.call.Decoded.the-variants.{Known, Unknown}
 use Rattle.kernel.specs.declared.Kernel.{Kernel}
-use Rattle.kernel.specs.Tables.{runnerOf, withScheduler}
 use Rattle.kernel.specs.declared.Answer.{Answer}
+use Rattle.kernel.specs.Tables.{runnerOf, withScheduler}
 use Rattle.kernel.specs.Answers.{answerOf, refused, answered}
-use Rattle.kernel.specs.Edits.{Edit, Effect, statusOf, endsb, movers, applied, carriedOut, guarded}
-use Rattle.kernel.specs.Effects.{does}
 use Rattle.kernel.specs.Sound.{soundb}
+use Rattle.kernel.specs.Edits.{Edit, applied, movers, endsb, statusOf, Effect, carriedOut, guarded}
+use Rattle.kernel.specs.Effects.{does}
 use Rattle.kernel.specs.General.{service, nobodyRunsb, byCaller, byRecord, step, unsound, call}
 use Rattle.kernel.proofs.Laws.Answers.{is-refused}
 

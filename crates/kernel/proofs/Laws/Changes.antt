@@ -24,7 +24,7 @@ use Rattle.waiting.proofs.Laws.Fit.{waits-nowhere}
 use Rattle.kernel.specs.declared.Kernel.{Kernel}
 use Rattle.kernel.specs.Tables.{threadOf, heldAt, withScheduler, withHeld, withClock}
 use Rattle.kernel.specs.Kinds.{Kind, stateOn}
-use Rattle.kernel.specs.Edits.{Move, Edit, recordBy, heldBy, frontb, startsb, anyb, edited, applied, mover, movers, gathered, countedBy, counted}
+use Rattle.kernel.specs.Edits.{Move, recordBy, heldBy, frontb, Edit, edited, applied, gathered, mover, movers, anyb, countedBy, counted, startsb}
 use Rattle.kernel.specs.Edits.Edit.{moves, alters, counts, ranks, stores, sets}
 use Rattle.kernel.specs.Roles.{allb}
 use Rattle.kernel.proofs.Laws.Edits
@@ -148,12 +148,8 @@ later u m e es A f a = A f (Edits.all-rest f e es a)
 
 sized-edit : (k : Kernel) (e : Edit) → length (k .held) ≡ 32 → length (edited k e .held) ≡ 32
 unfolding edited withHeld withScheduler withClock
-sized-edit k (moves t m) z = length-set (k .held) t _ ∙ z
-sized-edit k (alters t f) z = z
-sized-edit k (counts t) z = z
-sized-edit k (ranks d n) z = z
-sized-edit k (stores d n x) z = ap (λ (l : List Held). length l) (Objects.stored-held d k n x) ∙ z
-sized-edit k (sets c) z = z
+sized-edit k e z =
+    Edits.by-edit (λ e. length (edited k e .held) ≡ 32) (λ t m. length-set (k .held) t _ ∙ z) (λ t f. z) (λ t. z) (λ d n. z) (λ d n x. ap (λ (l : List Held). length l) (Objects.stored-held d k n x) ∙ z) (λ c. z) e
 
 moved-self : (k : Kernel) → Steady (k .scheduler) → length (k .held) ≡ 32 → (t : ℕ) (m : Move) → Fits.Moved k t m
     → (heldAt (edited k (moves t m)) t ≡ heldBy m (threadOf k t) (heldAt k t)) × (threadOf (edited k (moves t m)) t ≡ recordBy m (threadOf k t))
@@ -197,32 +193,25 @@ moved-once-later k e es u n a W =
       seen = W .seen;
     }
 
-unmoved-first : (u : ℕ) → count u (movers anyb []) ≡ 0
+none-first : (u : ℕ) → count u (movers anyb []) ≡ 0
 unfolding gathered count
-unmoved-first u = refl
+none-first u = refl
 
-moved-first : (t u : ℕ) (m : Move) → (u ≡ t → ⊥) → count u (movers anyb (moves t m ∷ [])) ≡ 0
+moved-first : (t u : ℕ) (m : Move) → count u (movers anyb (moves t m ∷ [])) ≡ count u (t ∷ [])
 unfolding gathered
-moved-first t u m e = Lists.count-there u t [] (λ z. e (sym z)) ∙ Less.count-none u
-
-moved-here : (t u : ℕ) (m : Move) → u ≡ t → count u (movers anyb (moves t m ∷ [])) ≡ 1
-unfolding gathered
-moved-here t u m e = let h = Lists.count-here t [] in let z = Less.count-none t in let y = ap (λ (v : ℕ). count v (t ∷ [])) e in omega (arith, h, z, y)
+moved-first t u m = refl
 
 moved-once-head : (k : Kernel) → Steady (k .scheduler) → length (k .held) ≡ 32 → (e : Edit) (es : List Edit) → Fits.RequiresAll k (e ∷ es) → (u : ℕ) → (count u (movers anyb (e ∷ [])) ≡ 0 → ⊥) → count u (movers anyb (e ∷ es)) ≡ 1 → MovedOnce k (applied k (e ∷ es)) (e ∷ es) u
 unfolding gathered
-moved-once-head k S z (moves t m) es G u n c =
-    by-eq u t
-    (λ e. moved-once-first k S z t m es G u e (let s = Edits.gathered-count (mover anyb) (moves t m) es u in let h = moved-here t u m e in omega (arith, s, c, h)))
-    (λ e. absurd (n (moved-first t u m e)))
-moved-once-head k S z (alters t f) es G u n c = absurd (n (unmoved-first u))
-moved-once-head k S z (counts t) es G u n c = absurd (n (unmoved-first u))
-moved-once-head k S z (ranks d i) es G u n c = absurd (n (unmoved-first u))
-moved-once-head k S z (stores d i x) es G u n c = absurd (n (unmoved-first u))
-moved-once-head k S z (sets i) es G u n c = absurd (n (unmoved-first u))
+moved-once-head k S z e es G u n c =
+    Edits.by-edit (λ e. Fits.RequiresAll k (e ∷ es) → (count u (movers anyb (e ∷ [])) ≡ 0 → ⊥) → count u (movers anyb (e ∷ es)) ≡ 1 → MovedOnce k (applied k (e ∷ es)) (e ∷ es) u)
+    (λ t m G n c. by-eq u t
+    (λ q. moved-once-first k S z t m es G u q (let s = Edits.gathered-count (mover anyb) (moves t m) es u in let f = moved-first t u m in let h = Lists.count-here t [] in let y = ap (λ (v : ℕ). count v (t ∷ [])) q in omega (arith, s, c, f, h, y)))
+    (λ q. absurd (n (moved-first t u m ∙ Lists.count-there u t [] (λ y. q (sym y)) ∙ Less.count-none u))))
+    (λ t f G n c. absurd (n (none-first u))) (λ t G n c. absurd (n (none-first u))) (λ d i G n c. absurd (n (none-first u))) (λ d i x G n c. absurd (n (none-first u))) (λ i G n c. absurd (n (none-first u))) e G n c
 
 pub moved-once : (k : Kernel) → Steady (k .scheduler) → length (k .held) ≡ 32 → (es : List Edit) → Fits.RequiresAll k es → (u : ℕ) → count u (movers anyb es) ≡ 1 → MovedOnce k (applied k es) es u
-moved-once k S z [] G u c = absurd (let n = unmoved-first u in omega (arith, n, c))
+moved-once k S z [] G u c = absurd (let n = none-first u in omega (arith, n, c))
 moved-once k S z (e ∷ es) G u c =
     by-eq (count u (movers anyb (e ∷ []))) 0
     (λ n. moved-once-later k e es u _ (kept-edit k S e (G .0) u n)

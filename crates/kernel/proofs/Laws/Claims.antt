@@ -5,11 +5,11 @@ use Prim.Native.Nat.{ℕ}
 use Rattle.scheduler.specs.Orders.{lineAt}
 use Rattle.scheduler.proofs.Laws.Choosing
 use Rattle.kernel.specs.declared.Kernel.{Kernel}
-use Rattle.kernel.specs.Answers.{Outcome, refused}
 use Rattle.kernel.specs.Tables.{withScheduler}
-use Rattle.kernel.specs.Edits.{applied, carriedOut}
+use Rattle.kernel.specs.Answers.{Outcome, refused}
 use Rattle.kernel.specs.Sound.{Sound}
-use Rattle.kernel.specs.Claims.{Claims, Does}
+use Rattle.kernel.specs.Edits.{applied, carriedOut}
+use Rattle.kernel.specs.Claims.{Does, Claims}
 use Rattle.kernel.specs.Claims.Does.{refuses, carries}
 use Rattle.kernel.proofs.Laws.Lines
 use Rattle.kernel.proofs.Laws.Does as Steps

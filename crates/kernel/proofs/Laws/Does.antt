@@ -17,16 +17,15 @@ use Rattle.scheduler.proofs.Laws.Choosing
 use Rattle.kernel.specs.declared.Kernel.{Kernel}
 use Rattle.kernel.specs.Tables.{runnerOf, heldAt, withScheduler}
 use Rattle.kernel.specs.Answers.{Outcome, refused}
-use Rattle.kernel.specs.Claims.{doneb, Unchanged}
-use Rattle.kernel.specs.Sound.{Sound}
-use Rattle.kernel.proofs.Laws.Answers.{is-refused, is-carried}
 use Rattle.kernel.specs.Kinds.{Kind, tableOf}
-use Rattle.kernel.specs.Sound.{Fit}
-use Rattle.kernel.specs.Edits.{Move, Edit, Success, Effect, statusOf, startsb, anyb, movers, applied, carriedOut, guarded}
+use Rattle.kernel.specs.Sound.{Fit, Sound}
+use Rattle.kernel.specs.Edits.{Move, Edit, applied, movers, anyb, startsb, Success, statusOf, Effect, carriedOut, guarded}
 use Rattle.kernel.specs.Edits.Edit.{moves, alters}
 use Rattle.kernel.specs.Edits.Success.{done, lifted, waits}
 use Rattle.kernel.specs.Roles.{mayb, allb}
 use Rattle.kernel.specs.Uses.{When, Role}
+use Rattle.kernel.specs.Claims.{doneb, Unchanged}
+use Rattle.kernel.proofs.Laws.Answers.{is-refused, is-carried}
 use Rattle.kernel.proofs.Laws.Objects
 use Rattle.kernel.proofs.Laws.Fits
 use Rattle.kernel.proofs.Laws.Lines
@@ -108,10 +107,6 @@ module _ (k : Kernel) (n a : ℕ) (e : Effect) (P : Proper k n a e) where
   unfolding carriedOut withScheduler
   chosen-line p = Choosing.rescheduled-line (applied k (e .edits) .scheduler) (P .fit .steady) (e .relinquishes) p
 
-  mark-seen : (b : Bool) (th : Thread) → Fits.seen (withMark b th) ≡ Fits.seen th
-  unfolding Fits.seen withMark
-  mark-seen b th = refl
-
   mark-ticks : (b : Bool) (th : Thread) → withMark b th .ticks ≡ th .ticks
   unfolding withMark
   mark-ticks b th = refl
@@ -121,7 +116,7 @@ module _ (k : Kernel) (n a : ℕ) (e : Effect) (P : Proper k n a e) where
   chosen-kept u =
       record {
         held = refl;
-        seen = Choosing.rescheduled-keeps (applied k (e .edits) .scheduler) (P .fit .steady) Fits.seen mark-seen (e .relinquishes) u;
+        seen = Choosing.rescheduled-keeps (applied k (e .edits) .scheduler) (P .fit .steady) Fits.seen Fits.mark-seen (e .relinquishes) u;
         ticks = (let q = Choosing.rescheduled-keeps (applied k (e .edits) .scheduler) (P .fit .steady) (λ y. y .ticks) mark-ticks (e .relinquishes) u in omega (arith, q));
       }
 

@@ -6,9 +6,21 @@ use Prim.Native.Nat.{ℕ, _+_}
 use Rattle.lines.specs.Lists.{count}
 use Rattle.lines.proofs.Laws.Logic.{and-left, and-right, and-in}
 use Rattle.lines.proofs.Laws.Lists
+use Rattle.scheduler.specs.declared.thread.Thread.{Thread}
 use Rattle.kernel.specs.declared.Kernel.{Kernel}
-use Rattle.kernel.specs.Edits.{Edit, edited, applied, gathered}
+use Rattle.kernel.specs.Kinds.{Kind, Object}
+use Rattle.kernel.specs.Edits.{Move, Edit, edited, applied, gathered}
+use Rattle.kernel.specs.Edits.Edit.{moves, alters, counts, ranks, stores, sets}
 use Rattle.kernel.specs.Roles.{allb}
+
+-- ---- what holds of each kind of edit holds of all
+pub by-edit : (P : Edit → Type 0) → ((t : ℕ) (m : Move) → P (moves t m)) → ((t : ℕ) (f : Thread → Thread) → P (alters t f)) → ((t : ℕ) → P (counts t)) → ((d : Kind) (n : ℕ) → P (ranks d n)) → ((d : Kind) (n : ℕ) (x : Object d) → P (stores d n x)) → ((c : ℕ) → P (sets c)) → (e : Edit) → P e
+by-edit P m a c r o s (moves t x) = m t x
+by-edit P m a c r o s (alters t f) = a t f
+by-edit P m a c r o s (counts t) = c t
+by-edit P m a c r o s (ranks d n) = r d n
+by-edit P m a c r o s (stores d n x) = o d n x
+by-edit P m a c r o s (sets i) = s i
 
 -- ---- the tables
 pub applied-append : (k : Kernel) (es fs : List Edit) → applied k (es ++ fs) ≡ applied (applied k es) fs

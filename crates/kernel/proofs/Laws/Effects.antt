@@ -1,15 +1,14 @@
 -- Effects that many calls share, and that they are proper.
 use mathlib.Core.Path.{_≡_, refl, sym, ap, _∙_}
 use mathlib.Core.List.{List, [], _∷_, _++_, append-nil}
-use mathlib.Core.Bool.{Bool, true, false, _&&_, _||_, not}
+use mathlib.Core.Bool.{Bool, true, false, _&&_, _||_}
 use Prim.Native.Nat.{ℕ, _<_, _≤_}
 use Prim.{tt}
 use native.Mathlib.Omega.{arith}
 use lib.Dec.{eqb, ltb}
 use borrow.Author.Tests.{eqb-true, eq-eqb, ltb-true, ne-eqb, not-true}
-use Rattle.lines.specs.Logic.{if_then_else_}
 use Rattle.lines.specs.Lists.{count}
-use Rattle.lines.proofs.Laws.Logic.{by-test, by-eq, never, and-left, and-right, and-in, or-rest}
+use Rattle.lines.proofs.Laws.Logic.{by-eq, never, and-left, and-right, and-in, or-rest}
 use Rattle.lines.proofs.Laws.Lists
 use Rattle.lines.proofs.Laws.Less
 use Rattle.scheduler.specs.declared.thread.Thread.{Thread}
@@ -22,20 +21,18 @@ use Rattle.calls.specs.Refusals.{unless, firstOf}
 use Rattle.waiting.specs.Fit.{waitsOnb, heldFitb}
 use Rattle.kernel.specs.declared.Kernel.{Kernel}
 use Rattle.kernel.specs.Tables.{threadOf, runnerOf, heldAt}
-use Rattle.kernel.specs.Sound.{Sound}
-use Rattle.kernel.proofs.Laws.Answers.{first-none, unless-none}
 use Rattle.kernel.specs.Kinds.{Kind, Object, stateOn, objectAt, waitb}
-use Rattle.kernel.specs.Sound.{MayWait, Fit}
-use Rattle.kernel.specs.Edits.{Cause, Edit, Success, recordBy, anyb, startsb, mover, movers, counted, gathered, edited, applied}
+use Rattle.kernel.specs.Sound.{MayWait, Fit, Sound}
+use Rattle.kernel.specs.Edits.{Cause, recordBy, Edit, edited, applied, gathered, mover, movers, anyb, counted, startsb, Success}
 use Rattle.kernel.specs.Edits.Move.{ends, starts, turns}
-use Rattle.kernel.specs.Edits.Edit.{moves, alters, counts, ranks, stores, sets}
+use Rattle.kernel.specs.Edits.Edit.{moves, alters, ranks, stores}
 use Rattle.kernel.specs.Edits.Success.{done, waits}
 use Rattle.kernel.specs.Roles.{mayMoveb, mayb, allb}
 use Rattle.kernel.specs.Effects.{gives, does, begins, endsEach}
+use Rattle.kernel.proofs.Laws.Answers.{first-none, unless-none}
 use Rattle.kernel.proofs.Laws.Edits
 use Rattle.kernel.proofs.Laws.Objects
 use Rattle.kernel.proofs.Laws.Waits
-use Rattle.waiting.proofs.Laws.Held
 use Rattle.kernel.proofs.Laws.Fits
 use Rattle.kernel.proofs.Laws.Lines
 use Rattle.kernel.proofs.Laws.Changes
@@ -78,12 +75,7 @@ only-one t u l = by-eq u t (λ z. z) (λ z. absurd (let y = Lists.count-there u 
 
 once-one : (e : Edit) (u : ℕ) → count u (movers anyb (e ∷ [])) ≤ 1
 unfolding gathered count
-once-one (moves t m) u = once-only t u
-once-one (alters t f) u = omega arith
-once-one (counts t) u = omega arith
-once-one (ranks d n) u = omega arith
-once-one (stores d n x) u = omega arith
-once-one (sets c) u = omega arith
+once-one e u = Edits.by-edit (λ e. count u (movers anyb (e ∷ [])) ≤ 1) (λ t m. once-only t u) (λ t f. omega arith) (λ t. omega arith) (λ d n. omega arith) (λ d n x. omega arith) (λ c. omega arith) e
 
 module _ (k : Kernel) (F : Fit k) (n a : ℕ) where
   pub proper-none : (words : List ℕ) → Does.Proper k n a (gives words [])

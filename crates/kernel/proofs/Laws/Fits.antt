@@ -28,17 +28,17 @@ use Rattle.calls.specs.Held.{noWords, noHeld}
 use Rattle.calls.specs.Statuses as Statuses
 use Rattle.waiting.specs.Ticks.{timedb, timeoutStatus, withTicks, lastTickb}
 use Rattle.waiting.specs.Fit.{waitsOnb, sendsb, statusFitb, wordsFitb, senderFitb, requestFitb, unheldFitb, heldFitb}
+use Rattle.kernel.specs.Kinds as Kinds
+use Rattle.waiting.proofs.Laws.Held
 use Rattle.kernel.specs.declared.Kernel.{Kernel}
 use Rattle.kernel.specs.Tables.{threadOf, heldAt, withScheduler, withHeld, withClock}
-use Rattle.kernel.specs.Kinds as Kinds
 use Rattle.kernel.specs.Kinds.{Kind, Object, sizeOf, stateOn, placeOf, tableOf, withObject}
 use Rattle.kernel.specs.Sound.{MayWait, Fit}
-use Rattle.kernel.specs.Edits.{Cause, Move, Edit, statusBy, recordBy, heldBy, frontb, startsb, edited, applied}
+use Rattle.kernel.specs.Edits.{Cause, statusBy, Move, recordBy, heldBy, frontb, Edit, edited, applied, startsb}
 use Rattle.kernel.specs.Edits.Cause.{served, deleted, timedOut, aborted}
 use Rattle.kernel.specs.Edits.Move.{ends, starts, stops, turns}
 use Rattle.kernel.specs.Edits.Edit.{moves, alters, counts, ranks, stores, sets}
 use Rattle.kernel.proofs.Laws.Objects
-use Rattle.waiting.proofs.Laws.Held
 
 -- ---- what an edit asks of the tables before it
 -- what a thread's record was, by the way in which it moves
@@ -383,7 +383,7 @@ fit-all k F [] G = F
 fit-all k F (e ∷ es) G = fit-all (edited k e) (fit-edit k F e (G .0 .0) (G .0 .1)) es (G .1)
 
 -- ---- the choice that follows
-mark-seen : (b : Bool) (th : Thread) → seen (withMark b th) ≡ seen th
+pub mark-seen : (b : Bool) (th : Thread) → seen (withMark b th) ≡ seen th
 unfolding seen withMark
 mark-seen b th = refl
 

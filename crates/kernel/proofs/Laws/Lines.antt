@@ -21,7 +21,7 @@ use Rattle.scheduler.proofs.Laws.Orders
 use Rattle.kernel.specs.declared.Kernel.{Kernel}
 use Rattle.kernel.specs.Tables.{threadOf, withScheduler, withHeld, withClock}
 use Rattle.kernel.specs.Kinds.{placeOf}
-use Rattle.kernel.specs.Edits.{Move, Edit, recordBy, frontb, startsb, leavesb, sameb, edited, applied, mover, movers, gathered, lineBy, linesBy}
+use Rattle.kernel.specs.Edits.{Move, recordBy, frontb, Edit, edited, applied, gathered, mover, movers, startsb, sameb, leavesb, lineBy, linesBy}
 use Rattle.kernel.specs.Edits.Cause.{served, deleted, timedOut, aborted}
 use Rattle.kernel.specs.Edits.Move.{ends, starts, stops, turns}
 use Rattle.kernel.specs.Edits.Edit.{moves, alters, counts, ranks, stores, sets}
@@ -125,14 +125,15 @@ module _ (p : Place) (waiters : 4 < p .state) where
   waiters-edit : (k : Kernel) → Steady (k .scheduler) → (e : Edit) → Fits.Requires k e → unstartedb e ≡ true → unrankedb p e ≡ true
       → lineAt (edited k e .scheduler) p ≡ less (movers (leavesb p) (e ∷ [])) (lineAt (k .scheduler) p)
   unfolding lineBy gathered unstartedb unrankedb
-  waiters-edit k S (moves t m) G u r =
-      let n = not-true (startsb m) u in
-      line-edit k S (moves t m) G p ∙ rw (behind m n, unplaced k t m G n) (append-nil (without t (lineAt (k .scheduler) p)) ∙ left k S t m (G .was) ∙ ap (λ (ts : List ℕ). less ts (lineAt (k .scheduler) p)) (sym (append-nil (onlyIf (leavesb p m) t))))
-  waiters-edit k S (alters t f) G u r = line-edit k S (alters t f) G p ∙ sym (Less.less-none (lineAt (k .scheduler) p))
-  waiters-edit k S (counts t) G u r = line-edit k S (counts t) G p ∙ sym (Less.less-none (lineAt (k .scheduler) p))
-  waiters-edit k S (ranks d n) G u r = line-edit k S (ranks d n) G p ∙ rw (not-true (sameb p (placeOf d n)) r) (sym (Less.less-none (lineAt (k .scheduler) p)))
-  waiters-edit k S (stores d n x) G u r = line-edit k S (stores d n x) G p ∙ sym (Less.less-none (lineAt (k .scheduler) p))
-  waiters-edit k S (sets c) G u r = line-edit k S (sets c) G p ∙ sym (Less.less-none (lineAt (k .scheduler) p))
+  waiters-edit k S e =
+      let l = lineAt (k .scheduler) p in
+      let same : (e : Edit) → lineAt (edited k e .scheduler) p ≡ l → lineAt (edited k e .scheduler) p ≡ less [] l = λ e q. q ∙ sym (Less.less-none l) in
+      Edits.by-edit (λ e. Fits.Requires k e → unstartedb e ≡ true → unrankedb p e ≡ true → lineAt (edited k e .scheduler) p ≡ less (movers (leavesb p) (e ∷ [])) l)
+      (λ t m G u r. let n = not-true (startsb m) u in
+      line-edit k S (moves t m) G p ∙ rw (behind m n, unplaced k t m G n) (append-nil (without t l) ∙ left k S t m (G .was) ∙ ap (λ (ts : List ℕ). less ts l) (sym (append-nil (onlyIf (leavesb p m) t)))))
+      (λ t f G u r. same (alters t f) (line-edit k S (alters t f) G p)) (λ t G u r. same (counts t) (line-edit k S (counts t) G p))
+      (λ d n G u r. same (ranks d n) (line-edit k S (ranks d n) G p ∙ rw (not-true (sameb p (placeOf d n)) r)))
+      (λ d n x G u r. same (stores d n x) (line-edit k S (stores d n x) G p)) (λ c G u r. same (sets c) (line-edit k S (sets c) G p)) e
 
   nobody-left : (k : Kernel) → lineAt (k .scheduler) p ≡ less (movers (leavesb p) []) (lineAt (k .scheduler) p)
   unfolding gathered

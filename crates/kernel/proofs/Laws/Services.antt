@@ -14,10 +14,10 @@ use Rattle.calls.specs.declared.call.Decoded.the-variants.{Known, Unknown}
 use Rattle.kernel.specs.declared.Kernel.{Kernel}
 use Rattle.kernel.specs.Tables.{runnerOf}
 use Rattle.kernel.specs.Answers.{Outcome, refused}
-use Rattle.kernel.specs.General.{reasonOf, effectOf, service, byCaller, byRecord, step}
-use Rattle.kernel.specs.Claims.{doneb, Unchanged}
 use Rattle.kernel.specs.Sound.{Sound}
 use Rattle.kernel.specs.Roles.{limitOf}
+use Rattle.kernel.specs.General.{reasonOf, effectOf, service, byCaller, byRecord, step}
+use Rattle.kernel.specs.Claims.{doneb, Unchanged}
 use Rattle.kernel.proofs.Laws.Does
 use Rattle.kernel.proofs.Laws.Calls.Threads
 use Rattle.kernel.proofs.Laws.Calls.Clock

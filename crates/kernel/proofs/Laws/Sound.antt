@@ -1,7 +1,7 @@
 -- The test of soundness holds exactly of sound tables; what the test finds, thread by thread.
 use mathlib.Core.Path.{_≡_, refl, sym, ap, ap₂, _∙_}
 use mathlib.Core.Bool.{Bool, true, false, _&&_, and-true, and-false}
-use Prim.Native.Nat.{ℕ, _+_, _≤_}
+use Prim.Native.Nat.{ℕ, _+_, _<_, _≤_}
 use native.Mathlib.Omega.{arith}
 use lib.ListN.{length, List·getD-eq-default}
 use borrow.Author.Tests.{eqb-true}
@@ -10,7 +10,7 @@ use Rattle.lines.specs.Lists.{filter, count, below, first, firstWith, leastOf, 
 use Rattle.lines.specs.Lines.{members, pad, lineOf, cleanb}
 use Rattle.lines.proofs.Laws.Logic.{by-test, never, and-left, and-right, and-in, implies-out, implies-in, all-at, all-in, all-more}
 use Rattle.scheduler.specs.declared.thread.Thread.{Thread}
-use Rattle.scheduler.specs.Threads.{onQueue, onSemaphore, onFlags, onBlock, uncreated, noThread, readyb, waitsb, sleepsb, pausedb, standsb}
+use Rattle.scheduler.specs.Threads.{uncreated, noThread, readyb, waitsb, sleepsb, pausedb, standsb}
 use Rattle.scheduler.specs.Orders as Orders
 use Rattle.scheduler.specs.Choice.{bestAmong, bestReady}
 use Rattle.scheduler.specs.Sound as Scheduling
@@ -23,16 +23,15 @@ use Rattle.blocks.specs.Pools.{noPool, poolZerob, poolFitb}
 use Rattle.calls.specs.declared.held.Held.{Held}
 use Rattle.calls.specs.Held.{holding}
 use Rattle.waiting.proofs.Laws.Fit.{waits-nowhere}
+use Rattle.waiting.specs.Fit.{blankFrom, waitsOnb, sendsb, statusFitb, wordsFitb, senderFitb, requestFitb, unheldFitb, heldFitb, semaphoresFitb, queuesFitb, groupsFitb, poolsFitb}
 use Rattle.kernel.specs.declared.Kernel.{Kernel}
 use Rattle.kernel.specs.Tables.{started, threadOf, heldAt, semaphoreAt, queueAt, groupAt, poolAt}
-use Rattle.waiting.specs.Fit.{blankFrom, waitsOnb, sendsb, statusFitb, wordsFitb, senderFitb, requestFitb, unheldFitb, heldFitb, semaphoreWaitb, queueWaitb, groupWaitb, poolWaitb, semaphoresFitb, queuesFitb, groupsFitb, poolsFitb}
-use Rattle.kernel.specs.Kinds.{Kind, Object, stateOn, tableOf, objectAt, noObject, objectFitb, waitb}
+use Rattle.kernel.specs.Kinds.{Kind, Object, sizeOf, stateOn, tableOf, objectAt, noObject, objectFitb, waitb}
 use Rattle.kernel.specs.Kinds.Kind.{semaphore, queue, group, pool}
+use Rattle.kernel.specs.Sound.{waitFitb, soundb, MayWait, Sound}
 use Rattle.kernel.proofs.Laws.Objects
 use Rattle.kernel.proofs.Laws.Objects.{by-kind}
 use Rattle.kernel.proofs.Laws.Fits
-use Rattle.kernel.specs.Sound.{waitFitb, soundb, MayWait, Sound}
-use Rattle.kernel.specs.Sound as Soundness
 
 -- ---- one thread more of a test of all
 pub one-more : (f : ℕ → Bool) (t : ℕ) (ok b : Bool) → ok ≡ allBelow t f → b ≡ f t → (ok && b) ≡ allBelow (t + 1) f
@@ -54,29 +53,20 @@ outside h e = omega arith
 
 -- ---- what is asked of the object that a thread waits on, kind by kind
 module _ (k : Kernel) (t : ℕ) where
-  abbrev onQ : Bool
-  onQ = implies (waitsOnb onQueue (threadOf k t)) (queueWaitb (heldAt k t) (queueAt k (threadOf k t .object)))
-
-  abbrev onS : Bool
-  onS = implies (waitsOnb onSemaphore (threadOf k t)) (semaphoreWaitb (semaphoreAt k (threadOf k t .object)))
-
-  abbrev onG : Bool
-  onG = implies (waitsOnb onFlags (threadOf k t)) (groupWaitb (heldAt k t) (groupAt k (threadOf k t .object)))
-
-  abbrev onP : Bool
-  onP = implies (waitsOnb onBlock (threadOf k t)) (poolWaitb (poolAt k (threadOf k t .object)))
+  abbrev askedb : Kind → Bool
+  askedb d = implies (waitsOnb (stateOn d) (threadOf k t)) (waitb d (heldAt k t) (objectAt d k (threadOf k t .object)))
 
   asked : waitFitb k t ≡ true → MayWait k (threadOf k t) (heldAt k t)
   unfolding waitFitb
   asked w =
-      let c = and-left (onQ && onS && onG) onP w in
-      let b = and-left (onQ && onS) onG c in
+      let c = and-left _ _ w in
+      let b = and-left _ _ c in
       by-kind (λ d. waitsOnb (stateOn d) (threadOf k t) ≡ true → waitb d (heldAt k t) (objectAt d k (threadOf k t .object)) ≡ true)
-      (implies-out _ _ (and-right onQ onS b)) (implies-out _ _ (and-left onQ onS b)) (implies-out _ _ (and-right (onQ && onS) onG c)) (implies-out _ _ (and-right (onQ && onS && onG) onP w))
+      (implies-out _ _ (and-right (askedb queue) _ b)) (implies-out _ _ (and-left (askedb queue) (askedb semaphore) b)) (implies-out _ _ (and-right (askedb queue && askedb semaphore) _ c)) (implies-out _ _ (and-right (askedb queue && askedb semaphore && askedb group) _ w))
 
   asks : MayWait k (threadOf k t) (heldAt k t) → waitFitb k t ≡ true
   unfolding waitFitb
-  asks W = and-in (onQ && onS && onG) onP (and-in (onQ && onS) onG (and-in onQ onS (implies-in _ _ (W queue)) (implies-in _ _ (W semaphore))) (implies-in _ _ (W group))) (implies-in _ _ (W pool))
+  asks W = and-in _ _ (and-in _ _ (and-in _ _ (implies-in _ _ (W queue)) (implies-in _ _ (W semaphore))) (implies-in _ _ (W group))) (implies-in _ _ (W pool))
 
   -- for one who waits on an object the test is that object's
   on-kind : (d : Kind) → waitsOnb (stateOn d) (threadOf k t) ≡ true → waitFitb k t ≡ waitb d (heldAt k t) (objectAt d k (threadOf k t .object))
@@ -120,57 +110,33 @@ module _ (k : Kernel) (t : ℕ) (th : Thread) (e : th ≡ threadOf k t) where
 
 -- ---- the test and soundness
 module _ (k : Kernel) where
-  abbrev heldTest : ℕ → Bool
-  heldTest t = heldFitb (threadOf k t) (heldAt k t)
+  -- the tests of `soundb` before those of the objects' tables, and up to each of these
+  abbrev threads-test : Bool
+  threads-test = Scheduling.soundb (k .scheduler) && allBelow 32 (λ t. heldFitb (threadOf k t) (heldAt k t))
 
-  abbrev test : Kind → ℕ → Bool
-  test d n = objectFitb d (objectAt d k n)
+  abbrev fit-test : Kind → Bool
+  fit-test d = allBelow (sizeOf d) (λ n. objectFitb d (objectAt d k n))
 
-  -- the first tests of `soundb`, up to each
-  abbrev to-held : Bool
-  to-held = Scheduling.soundb (k .scheduler) && allBelow 32 heldTest
-
-  abbrev to-waits : Bool
-  to-waits = to-held && allBelow 32 (waitFitb k)
-
-  abbrev to-semaphores : Bool
-  to-semaphores = to-waits && allBelow 16 (test semaphore)
-
-  abbrev to-queues : Bool
-  to-queues = to-semaphores && allBelow 8 (test queue)
-
-  abbrev to-groups : Bool
-  to-groups = to-queues && allBelow 8 (test group)
-
-  pub tested :
-      length (k .scheduler .threads) ≡ 32
-      → length (k .held) ≡ 32
-      → length (k .semaphores) ≡ 16
-      → length (k .queues) ≡ 8
-      → length (k .groups) ≡ 8
-      → length (k .pools) ≡ 4
-      → soundb k ≡ true
-      → Sound k
+  pub tested : length (k .scheduler .threads) ≡ 32 → length (k .held) ≡ 32 → ((d : Kind) → length (tableOf d k) ≡ sizeOf d) → soundb k ≡ true → Sound k
   unfolding soundb semaphoresFitb queuesFitb groupsFitb poolsFitb semaphoreAt queueAt groupAt poolAt
-  tested zt zh zs zq zg zp e =
-      let g = and-left to-groups (allBelow 4 (test pool)) e in
-      let q = and-left to-queues (allBelow 8 (test group)) g in
-      let s = and-left to-semaphores (allBelow 8 (test queue)) q in
-      let w = and-left to-waits (allBelow 16 (test semaphore)) s in
-      let h = and-left to-held (allBelow 32 (waitFitb k)) w in
-      let t = Testing.tested (k .scheduler) zt (and-left (Scheduling.soundb (k .scheduler)) (allBelow 32 heldTest) h) in
-      let objects : (d : Kind) → Soundness.Objects d k = by-kind (λ d. Soundness.Objects d k)
-      (record { sized = zs; fit = all-at 16 (test semaphore) (and-right to-waits (allBelow 16 (test semaphore)) s) })
-      (record { sized = zq; fit = all-at 8 (test queue) (and-right to-semaphores (allBelow 8 (test queue)) q) })
-      (record { sized = zg; fit = all-at 8 (test group) (and-right to-queues (allBelow 8 (test group)) g) })
-      (record { sized = zp; fit = all-at 4 (test pool) (and-right to-groups (allBelow 4 (test pool)) e) }) in
+  tested threads held sized e =
+      let to-waits : Bool = threads-test && allBelow 32 (waitFitb k) in
+      let g = and-left _ _ e in
+      let q = and-left _ _ g in
+      let s = and-left _ _ q in
+      let w = and-left to-waits _ s in
+      let h = and-left threads-test _ w in
+      let t = Testing.tested (k .scheduler) threads (and-left _ _ h) in
+      let fit : (d : Kind) (n : ℕ) → n < sizeOf d → objectFitb d (objectAt d k n) ≡ true = by-kind (λ d. (n : ℕ) → n < sizeOf d → objectFitb d (objectAt d k n) ≡ true)
+      (all-at 16 _ (and-right to-waits _ s)) (all-at 8 _ (and-right (to-waits && fit-test semaphore) _ q))
+      (all-at 8 _ (and-right (to-waits && fit-test semaphore && fit-test queue) _ g)) (all-at 4 _ (and-right (to-waits && fit-test semaphore && fit-test queue && fit-test group) _ e)) in
       record {
         fit = record {
           steady = t .steady;
-          heldSized = zh;
-          held = all-at 32 heldTest (and-right (Scheduling.soundb (k .scheduler)) (allBelow 32 heldTest) h);
-          waits = λ u l. asked k u (all-at 32 (waitFitb k) (and-right to-held (allBelow 32 (waitFitb k)) w) u l);
-          objects = objects;
+          heldSized = held;
+          held = all-at 32 _ (and-right (Scheduling.soundb (k .scheduler)) _ h);
+          waits = λ u l. asked k u (all-at 32 _ (and-right threads-test _ w) u l);
+          objects = λ d. record { sized = sized d; fit = fit d };
         };
         runs = t .runs;
       }
@@ -179,12 +145,9 @@ module _ (k : Kernel) where
   unfolding soundb semaphoresFitb queuesFitb groupsFitb poolsFitb semaphoreAt queueAt groupAt poolAt
   passes S =
       let F = S .fit in
-      let h = and-in (Scheduling.soundb (k .scheduler)) (allBelow 32 heldTest) (Testing.passes (k .scheduler) (record { steady = F .steady; runs = S .runs })) (all-in 32 heldTest (F .held)) in
-      let w = and-in to-held (allBelow 32 (waitFitb k)) h (all-in 32 (waitFitb k) (λ t l. asks k t (F .waits t l))) in
-      let s = and-in to-waits (allBelow 16 (test semaphore)) w (all-in 16 (test semaphore) (F .objects semaphore .fit)) in
-      let q = and-in to-semaphores (allBelow 8 (test queue)) s (all-in 8 (test queue) (F .objects queue .fit)) in
-      let g = and-in to-queues (allBelow 8 (test group)) q (all-in 8 (test group) (F .objects group .fit)) in
-      and-in to-groups (allBelow 4 (test pool)) g (all-in 4 (test pool) (F .objects pool .fit))
+      let all : (d : Kind) → allBelow (sizeOf d) (λ n. objectFitb d (objectAt d k n)) ≡ true = λ d. all-in (sizeOf d) _ (F .objects d .fit) in
+      and-in _ _ (and-in _ _ (and-in _ _ (and-in _ _ (and-in _ _ (and-in _ _
+      (Testing.passes (k .scheduler) (record { steady = F .steady; runs = S .runs })) (all-in 32 _ (F .held))) (all-in 32 _ (λ t l. asks k t (F .waits t l)))) (all semaphore)) (all queue)) (all group)) (all pool)
 
 -- ---- nothing created
 started-passes : soundb started ≡ true
@@ -193,4 +156,4 @@ started-passes = refl
 
 pub started-sound : Sound started
 unfolding started Orders.started
-started-sound = tested started refl refl refl refl refl refl started-passes
+started-sound = tested started refl refl (by-kind (λ d. length (tableOf d started) ≡ sizeOf d) refl refl refl refl) started-passes

@@ -1,7 +1,7 @@
 -- What the calls of objects share, for every kind: who waits there, who is first, and the effects that close, give, take and store.
 use mathlib.Core.Path.{_≡_, refl, sym, ap, _∙_}
 use mathlib.Core.List.{List, [], _∷_}
-use mathlib.Core.Bool.{Bool, true, false, _&&_, _||_, not}
+use mathlib.Core.Bool.{true, false, _&&_, _||_, not}
 use Prim.Native.Nat.{ℕ, _<_}
 use native.Mathlib.Omega.{arith}
 use lib.Dec.{eqb, ltb}
@@ -23,16 +23,16 @@ use Rattle.waiting.specs.Fit.{waitsOnb, heldFitb, semaphoreWaitb, poolWaitb}
 use Rattle.waiting.proofs.Laws.Held
 use Rattle.kernel.specs.declared.Kernel.{Kernel}
 use Rattle.kernel.specs.Tables.{threadOf, runnerOf, heldAt}
-use Rattle.kernel.specs.Sound.{Fit, Sound}
 use Rattle.kernel.specs.Kinds.{Kind, Object, sizeOf, stateOn, placeOf, objectAt, noObject, createdb, objectFitb, waitb}
 use Rattle.kernel.specs.Kinds.Kind.{semaphore, queue, group, pool}
-use Rattle.kernel.specs.Edits.{Cause, Effect}
+use Rattle.kernel.specs.Sound.{Fit, Sound}
+use Rattle.kernel.specs.Edits.{Cause, counted, Effect}
 use Rattle.kernel.specs.Edits.Cause.{served, deleted}
 use Rattle.kernel.specs.Edits.Move.{ends}
 use Rattle.kernel.specs.Edits.Edit.{ranks, stores}
 use Rattle.kernel.specs.Edits.Success.{done, waits}
 use Rattle.kernel.specs.Roles.{mayMoveb, mayb}
-use Rattle.kernel.specs.Effects.{storeEffect, closeEffect, removeEffect, rankEffect, serveEffect, giveEffect, takeEffect, waitedb, amountOf, oneLess}
+use Rattle.kernel.specs.Effects.{storeEffect, closeEffect, removeEffect, rankEffect, waitedb, serveEffect, giveEffect, amountOf, oneLess, takeEffect}
 use Rattle.kernel.specs.Uses.{Taker, countedb, newOf, oneGiven, mayGiveb, givenWords, Creates, Takes, Gives}
 use Rattle.kernel.proofs.Laws.Answers.{second-none, unless-none}
 use Rattle.kernel.proofs.Laws.Objects

@@ -1,7 +1,7 @@
 -- Laws of ending several waits and of ticks, as loops go: one thread more.
 use mathlib.Core.Path.{_≡_, refl, sym, ap, _∙_}
 use mathlib.Core.List.{List, [], _∷_, _++_, append-nil}
-use mathlib.Core.Bool.{Bool, true, false, _&&_}
+use mathlib.Core.Bool.{Bool, true, false}
 use Prim.Native.Nat.{ℕ, zero, suc, _+_, _<_, _≤_}
 use native.Mathlib.Omega.{arith}
 use native.Mathlib.Numerals.{add-one}
@@ -21,7 +21,7 @@ use Rattle.waiting.specs.Ticks.{timedb, lastTickb}
 use Rattle.kernel.specs.declared.Kernel.{Kernel}
 use Rattle.kernel.specs.Tables.{threadOf, heldAt, withScheduler, withHeld, withSemaphore, withQueue, withGroup, withPool}
 use Rattle.kernel.specs.Kinds.{Kind, Object, withObject}
-use Rattle.kernel.specs.Edits.{Cause, Move, Edit, Holds, recordBy, heldBy, frontb, endsb, mover, movers, gathered, edited, applied, statusOf, carriedOut}
+use Rattle.kernel.specs.Edits.{Cause, Holds, Move, recordBy, heldBy, frontb, Edit, edited, applied, gathered, mover, movers, endsb, statusOf, carriedOut}
 use Rattle.kernel.specs.Edits.Cause.{timedOut}
 use Rattle.kernel.specs.Edits.Move.{ends}
 use Rattle.kernel.specs.Edits.Edit.{moves, counts, stores}

@@ -31,6 +31,8 @@ use Rattle.kernel.specs.General.{reasonOf, effectOf, service, step}
 use Rattle.kernel.specs.Runs.{afterRecord, afterRecords, ran, replyOf, replyTo, repliedAll, ranReplies}
 use Rattle.kernel.proofs.Laws.Runs.{after-more, take-smaller, unsound-all, sound-record, replied-more, sound-reply}
 use Rattle.kernel.proofs.Laws.Records.{to-service, to-refusal}
+use Rattle.kernel.specs.Kinds.{sizeOf, tableOf}
+use Rattle.kernel.proofs.Laws.Objects.{by-kind}
 use Rattle.kernel.proofs.Laws.Sound.{tested}
 use Rattle.kernel.proofs.Laws.Claims.{claims}
 use Rattle.kernel.proofs.Kernel.run.Statement.{statement}
@@ -49,7 +51,7 @@ abbrev μ-loop : tie.MeasureT-loop
 -- ---- what the test finds of the tables at the start
 module _ (x : tie.Start Inv-loop μ-loop) where
   sound : soundb (x .args .self) ≡ true → Sound (x .args .self)
-  sound = tested (x .args .self) (search length-mapped) (search length-mapped) (search length-mapped) (search length-mapped) (search length-mapped) (search length-mapped)
+  sound = tested (x .args .self) (search length-mapped) (search length-mapped) (by-kind (λ d. length (tableOf d (x .args .self)) ≡ sizeOf d) (search length-mapped) (search length-mapped) (search length-mapped) (search length-mapped))
 
 -- ---- the words of the messages, as they are lent
 module _ (m : tie.After-message-count Inv-loop μ-loop) where
