@@ -19,7 +19,7 @@ use Rattle.kernel.specs.Effects.{oneMore, counting}
 use Rattle.claims.specs.Lists.{Request, answer, next, after}
 use Rattle.claims.specs.Rolls.{doneb, gave}
 use Rattle.claims.specs.Accounts.{servedLater, served, Undeleted, SemaphoreAccount, PoolAccount, Accounts}
-use Rattle.claims.proofs.Laws.Steps.{next-sound, request-step}
+use Rattle.claims.proofs.Laws.Steps.{next-sound}
 use Rattle.claims.proofs.Laws.Served.{later}
 use Rattle.claims.proofs.Laws.Entries.{Entry, even, less, more, gives, takes, step-entry, new-object}
 
@@ -75,7 +75,7 @@ semaphore-from : (n : ℕ) (ms : List Request) (k : Kernel) → Sound k → sema
 unfolding served servedLater gave after doneb
 semaphore-from n [] k S made low u = record { enough = omega arith; count = omega (arith, low) }
 semaphore-from n (m ∷ ms) k S made low u =
-    let one = counted n k m (answer k m .status) (next k m) made low (step-entry semaphore refl n k S made m (request-step k S m) (u .0)) in
+    let one = counted n k m (answer k m .status) (next k m) made low (step-entry semaphore refl n k S made m (u .0)) in
     let few = one .enough in
     let now = one .count in
     let rest = semaphore-from n ms (next k m) (next-sound k S m) (one .created) (omega (arith, now)) (u .1) in
@@ -87,7 +87,7 @@ pool-from : (n : ℕ) (ms : List Request) (k : Kernel) → Sound k → poolAt k 
 unfolding served servedLater gave after doneb
 pool-from n [] k S made slots u = record { enough = omega arith; free = omega arith; listed = Records.fit-length (poolAt k n) (pool-fit n k S made slots) made slots; total = refl }
 pool-from n (m ∷ ms) k S made slots u =
-    let one = booked n k S made slots m (answer k m .status) (next k m) (step-entry pool refl n k S made m (request-step k S m) (u .0)) in
+    let one = booked n k S made slots m (answer k m .status) (next k m) (step-entry pool refl n k S made m (u .0)) in
     let few = one .enough in
     let now = one .free in
     let rest = pool-from n ms (next k m) (next-sound k S m) (one .created) (one .slots) (u .1) in
@@ -100,14 +100,14 @@ module _ (k : Kernel) (S : Sound k) (m : Request) where
   semaphore-since : m .number ≡ 16 → m .b < 4294967296 → doneb (answer k m) ≡ true → (ms : List Request) → Undeleted semaphore (m .a) (next k m) ms → SemaphoreAccount (m .a) (m .b) (next k m) ms
   unfolding counting
   semaphore-since n low done ms u =
-      let e = new-object k S m (request-step k S m) semaphore (subst (λ (i : ℕ). oneOf i (16 ∷ []) ≡ true) (sym n) refl) done in
+      let e = new-object k S m semaphore (subst (λ (i : ℕ). oneOf i (16 ∷ []) ≡ true) (sym n) refl) done in
       let c : semaphoreAt (next k m) (m .a) .count ≡ m .b = ap (λ (y : Semaphore). y .count) e in
       subst (λ (b : ℕ). SemaphoreAccount (m .a) b (next k m) ms) c
       (semaphore-from (m .a) ms (next k m) (next-sound k S m) (ap (λ (y : Semaphore). y .created) e) (omega (arith, c, low)) u)
 
   module _ (n : m .number ≡ 33) (done : doneb (answer k m) ≡ true) where
     fresh : poolAt (next k m) (m .a) ≡ freshPool (m .b) (m .c)
-    fresh = new-object k S m (request-step k S m) pool (subst (λ (i : ℕ). oneOf i (33 ∷ []) ≡ true) (sym n) refl) done
+    fresh = new-object k S m pool (subst (λ (i : ℕ). oneOf i (33 ∷ []) ≡ true) (sym n) refl) done
 
     pool-since : (ms : List Request) → Undeleted pool (m .a) (next k m) ms → PoolAccount (m .a) (blocksOf (poolAt (next k m) (m .a))) (next k m) ms
     unfolding freshPool listing

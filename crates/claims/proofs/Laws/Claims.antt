@@ -15,7 +15,6 @@ use Rattle.kernel.specs.Sound.{Sound}
 use Rattle.kernel.specs.Uses.{rolledb}
 use Rattle.claims.specs.Lists.{Request, answer, next, after}
 use Rattle.claims.specs.Rolls.{Entry, names, rollOf, givesb, doneb, rolled, rollAfter, lastsb, Waits, startRoll, NoPrioritiseOrDelete, KeptAll, gave, NoneServed, Undisturbed, Claim}
-use Rattle.claims.proofs.Laws.Steps.{request-step}
 use Rattle.claims.proofs.Laws.Members
 use Rattle.claims.proofs.Laws.Rolls
 use Rattle.claims.proofs.Laws.Counts
@@ -30,10 +29,9 @@ module _ (d : Kind) (o : rolledb d ≡ true) (n t : ℕ) where
   kept-all : (ms : List Request) (k : Kernel) (r : List Entry) → Rolls.Lasts d n t k r → NoPrioritiseOrDelete d n k ms → KeptAll d n t k r ms × NoneServed d n t k r ms
   kept-all [] k r L c = (tt, tt)
   kept-all (m ∷ ms) k r L c =
-      let st = request-step k (L .sound) m in
       let s = rolled d n m (answer k m) r in
-      let more : lastsb t s ≡ true → KeptAll d n t (next k m) s ms × NoneServed d n t (next k m) s ms = λ w. kept-all ms (next k m) s (Rolls.next-lasts d o n t k r L m st (c .0) w) (c .1) in
-      ((Rolls.kept d o n t k r L m st (c .0), λ w. more w .0), (Rolls.none-taken d o n t k r L m st, λ w. more w .1))
+      let more : lastsb t s ≡ true → KeptAll d n t (next k m) s ms × NoneServed d n t (next k m) s ms = λ w. kept-all ms (next k m) s (Rolls.next-lasts d o n t k r L m (c .0) w) (c .1) in
+      ((Rolls.kept d o n t k r L m (c .0), λ w. more w .0), (Rolls.none-taken d o n t k r L m, λ w. more w .1))
 
   -- the wait lasts until those ahead are served
   lasts-after : (ms : List Request) (k : Kernel) (r : List Entry) (ahead : List ℕ) → names r ≡ ahead ++ (t ∷ []) → Rolls.Lasts d n t k r → NoPrioritiseOrDelete d n k ms → Undisturbed d n k r ms → gave d n k ms ≤ length ahead
@@ -46,7 +44,7 @@ module _ (d : Kind) (o : rolledb d ≡ true) (n t : ℕ) where
       let shape : names s ≡ drop g ahead ++ (t ∷ []) = Counts.names-rolled d n m k r (U .0) ∙ ap (drop g) q ∙ drop-append-le g ahead (t ∷ []) (omega (arith, l)) in
       let here : 0 < count t (names s) = rw shape (Members.stands-last (drop g ahead) t) in
       let j = length-drop g ahead in
-      lasts-after ms (next k m) s (drop g ahead) shape (Rolls.next-lasts d o n t k r L m (request-step k (L .sound) m) (c .0) (lt-ltb 0 (count t (names s)) here)) (c .1) (U .1) (omega (arith, l, j))
+      lasts-after ms (next k m) s (drop g ahead) shape (Rolls.next-lasts d o n t k r L m (c .0) (lt-ltb 0 (count t (names s)) here)) (c .1) (U .1) (omega (arith, l, j))
 
 pub claim : (k : Kernel) → Sound k → (d : Kind) (n : ℕ) (ahead : List ℕ) (t : ℕ) → Waits k d n ahead t → Claim k d n ahead t
 unfolding lastsb
@@ -65,5 +63,5 @@ claim k S d n ahead t W =
           let last : names (rollAfter d n k r ms) ≡ t ∷ [] =
           Counts.names-after d n ms k r U ∙ ap (drop (gave d n k ms)) q ∙ ap (λ (j : ℕ). drop j xs) i
           ∙ drop-append-seam ahead (t ∷ []) in
-          (lt-ltb 0 _ (lasts .stands), Rolls.serves d o n t (after k ms) (rollAfter d n k r ms) lasts m (request-step (after k ms) (lasts .sound) m) last g z));
+          (lt-ltb 0 _ (lasts .stands), Rolls.serves d o n t (after k ms) (rollAfter d n k r ms) lasts m last g z));
     }

@@ -17,9 +17,7 @@ use Rattle.kernel.proofs.Laws.Lines
 use Rattle.kernel.proofs.Laws.Does
 use Rattle.scheduler.specs.declared.Scheduler.{Scheduler}
 use Rattle.kernel.specs.declared.Kernel.{Kernel}
-use Rattle.kernel.specs.declared.Answer.{Answer}
 use Rattle.kernel.specs.Tables.{withScheduler}
-use Rattle.kernel.specs.Answers.{Outcome, answerOf, refused}
 use Rattle.kernel.specs.Kinds.{Kind, Object, sizeOf, stateOn, placeOf, objectAt, createdb}
 use Rattle.kernel.specs.Kinds.Kind.{semaphore, queue, group, pool}
 use Rattle.kernel.specs.Sound.{Fit, Sound}
@@ -34,7 +32,7 @@ use Rattle.kernel.specs.Uses.{rolledb, countedb, newOf, oneGiven, mayGiveb, Cre
 use Rattle.claims.specs.Lists.{Request, answer, next}
 use Rattle.claims.specs.Rolls.{onb, givesb, takesb, doneb}
 use Rattle.claims.specs.Accounts.{deletesb}
-use Rattle.claims.proofs.Laws.Steps.{stepped, target, answer-is}
+use Rattle.claims.proofs.Laws.Steps.{target, by-step}
 use Rattle.claims.proofs.Laws.Serving
 use Rattle.claims.proofs.Laws.Served.{apartb, later, later-same, later-stored, later-apart, later-first, waiter-takes}
 
@@ -128,23 +126,13 @@ unfolding applied edited
 record-stored d n k F small y es z = ap (λ (l : List Edit). objectAt d (applied k l) n) z ∙ Objects.stored-self d k n y (F .objects d .sized) small
 
 -- ---- one call
-module _ (k : Kernel) (S : Sound k) (m : Request) (st : Does.Step k (m .number) (target m) (m .b) (m .c) (m .messages) (stepped k m)) where
-  -- what holds of its status and tables where it is refused, and where it is carried out
-  by-step : (P : ℕ → Kernel → Type 0) → ((s : ℕ) → eqb s 0 ≡ false → P s k)
-      → ((e : Effect) → Does.Proper k (m .number) (target m) e → Role k (m .number) (target m) (m .b) (m .c) (m .messages) e → P (statusOf (e .success)) (carriedOut k e .kernel)) → P (answer k m .status) (next k m)
-  unfolding next answerOf refused carriedOut
-  by-step P f g = subst (λ (y : Answer). P (y .status) (y .kernel)) (sym (answer-is k S m)) (go st)
-    where
-      go : Does.Step k (m .number) (target m) (m .b) (m .c) (m .messages) (stepped k m) → P (stepped k m .status) (stepped k m .kernel)
-      go (Does.Step.refuses s z r) = subst (λ (y : Outcome). P (y .status) (y .kernel)) (sym r) (f s z)
-      go (Does.Step.carries e r E R) = subst (λ (y : Outcome). P (y .status) (y .kernel)) (sym r) (g e E R)
-
+module _ (k : Kernel) (S : Sound k) (m : Request) where
   -- one that creates an object and is done
   pub new-object : (d : Kind) → oneOf (m .number) (rowOf d .creates) ≡ true → doneb (answer k m) ≡ true → objectAt d (next k m) (m .a) ≡ newOf d (m .b) (m .c)
   unfolding doneb
   new-object d own =
       let named = Serving.own-kind d (m .number) (rowOf d .creates) (Serving.own-row d .5) own in
-      by-step (λ s x. eqb s 0 ≡ true → objectAt d x (m .a) ≡ newOf d (m .b) (m .c)) (λ s z y. never y z)
+      by-step k S m (λ s x. eqb s 0 ≡ true → objectAt d x (m .a) ≡ newOf d (m .b) (m .c)) (λ s z y. never y z)
       (λ e P R y. let c = Does.when (subst (λ (b : Kind). When (oneOf (m .number) (rowOf b .creates)) (Creates b k (target m) (m .b) (m .c) e)) (named .0) (R .0)) own in
       let low = c .small in
       let limit = named .1 in
@@ -240,6 +228,6 @@ module _ (d : Kind) (counted : countedb d ≡ true) (n : ℕ) (k : Kernel) (S : 
         (λ z A. apart-entry (statusOf (e .success)) A (λ y. never y z))
 
   -- any call that does not delete it
-  pub step-entry : Does.Step k (m .number) (target m) (m .b) (m .c) (m .messages) (stepped k m) → (deletesb d n m && doneb (answer k m)) ≡ false → Entry d n k m (answer k m .status) (next k m)
+  pub step-entry : (deletesb d n m && doneb (answer k m)) ≡ false → Entry d n k m (answer k m .status) (next k m)
   unfolding doneb
-  step-entry st = by-step k S m st (λ s x. (deletesb d n m && eqb s 0) ≡ false → Entry d n k m s x) (λ s z w. none-entry s k (λ y. never y z) (later-same d n k F) refl) carried-entry
+  step-entry = by-step k S m (λ s x. (deletesb d n m && eqb s 0) ≡ false → Entry d n k m s x) (λ s z w. none-entry s k (λ y. never y z) (later-same d n k F) refl) carried-entry

@@ -27,11 +27,9 @@ use Rattle.kernel.proofs.Laws.Fits
 use Rattle.waiting.proofs.Laws.Held
 use Rattle.kernel.proofs.Laws.Lines
 use Rattle.kernel.proofs.Laws.Does
-use Rattle.kernel.proofs.Laws.Does.{Shape, Proper, Step, refuses, carries}
+use Rattle.kernel.proofs.Laws.Does.{Shape, Proper}
 use Rattle.kernel.specs.declared.Kernel.{Kernel}
-use Rattle.kernel.specs.declared.Answer.{Answer}
 use Rattle.kernel.specs.Tables.{threadOf, heldAt, withScheduler, withHeld}
-use Rattle.kernel.specs.Answers.{Outcome, answerOf, refused}
 use Rattle.kernel.specs.Kinds.{Kind, sizeOf, stateOn, placeOf}
 use Rattle.kernel.specs.Sound.{Fit, Sound}
 use Rattle.kernel.specs.Edits.{statusBy, Move, heldBy, Edit, edited, applied, gathered, movers, counted, startsb, leavesb, Success, statusOf, Effect, carriedOut}
@@ -45,7 +43,7 @@ use Rattle.kernel.specs.Threads.{terminateEffect, abortEffect}
 use Rattle.kernel.specs.Uses.{Taker, rolledb, givenWords, Role}
 use Rattle.claims.specs.Lists.{Request, answer, next}
 use Rattle.claims.specs.Rolls.{Entry, names, rest, each, unnamed, ticked, onb, givesb, takesb, prioritisesOrDeletesb, doneb, strikeOut, rolled, rollOf, lastsb, Waits, startRoll, Kept, Served}
-use Rattle.claims.proofs.Laws.Steps.{stepped, target, answer-is, next-sound}
+use Rattle.claims.proofs.Laws.Steps.{target, next-sound, by-step}
 use Rattle.claims.proofs.Laws.Members
 use Rattle.claims.proofs.Laws.Serving
 use Rattle.claims.proofs.Laws.Served.{waiter-takes}
@@ -211,63 +209,39 @@ module _ (d : Kind) (o : rolledb d ≡ true) (n t : ℕ) (k : Kernel) (r : List 
         ∙ getD-set-same (k .held) t (holding Statuses.success words) noHeld (let l = small t (L .stands) in let h = F .heldSized in omega (arith, l, h))
 
   -- ---- any call
-  abbrev StepTo : Outcome → Type 0
-  StepTo y = Step k (m .number) (target m) (m .b) (m .c) (m .messages) y
-
-  -- the roll after an outcome
-  abbrev Follows : Outcome → Type 0
-  Follows y = Members.Passes p k (y .kernel) r (if eqb (y .status) 0 then strikeOut d n m r else r)
-
-  step-passes : (y : Outcome) → StepTo y → (eqb (y .status) 0 ≡ true → prioritisesOrDeletesb d n m ≡ false) → Follows y
-  unfolding refused carriedOut
-  step-passes y (refuses s z q) kept-order = subst Follows (sym q) (rw z (record { rolls = L .rolls; gone = λ u c i. absurd (omega (arith, c, i)); held = λ u c. refl }))
-  step-passes y (carries e q P R) kept-order = subst Follows (sym q) (carried-passes e P R (e .success) refl (λ z. kept-order (ap (λ (w : Outcome). eqb (w .status) 0) q ∙ z)))
-
   -- no taking call is served
-  taking-undone : takesb d n m ≡ true → (y : Outcome) → StepTo y → eqb (y .status) 0 ≡ false
-  unfolding refused carriedOut statusOf
-  taking-undone g y (refuses s z q) = ap (λ (w : Outcome). eqb (w .status) 0) q ∙ z
-  taking-undone g y (carries e q P R) = ap (λ (w : Outcome). eqb (w .status) 0) q ∙ ap (λ (s : Success). eqb (statusOf s) 0) (Serving.takes-at d n low m k e R g .waits o t taker)
+  pub none-taken : (takesb d n m && doneb (answer k m)) ≡ false
+  unfolding doneb statusOf
+  none-taken =
+      by-test (takesb d n m)
+      (λ g. rw g (by-step k (L .sound) m (λ s y. eqb s 0 ≡ false) (λ s z. z) (λ e P R. ap (λ (s : Success). eqb (statusOf s) 0) (Serving.takes-at d n low m k e R g .waits o t taker)))) (λ g. rw g)
 
-  giving-holds : givesb d n m ≡ true → firstAt (k .scheduler) p ≡ t → (y : Outcome) → StepTo y → eqb (y .status) 0 ≡ true → heldAt (y .kernel) t ≡ holding Statuses.success (givenWords d k n (m .b) (m .c) (m .messages))
-  unfolding refused
-  giving-holds g i y (refuses s z q) w = never (sym (ap (λ (v : Outcome). eqb (v .status) 0) q) ∙ w) z
-  giving-holds g i y (carries e q P R) w = ap (λ (v : Outcome). heldAt (v .kernel) t) q ∙ served-holds e P R _ (first-served e P R g) i
+  -- who is alone in the roll is served by a giving call
+  pub serves : names r ≡ t ∷ [] → givesb d n m ≡ true → doneb (answer k m) ≡ true → Served d n t k m
+  unfolding doneb holding firstAt
+  serves alone g z =
+      let first = Lists.begins-first t [] (lineAt (k .scheduler) p) (subst (λ (l : List ℕ). Begins l (lineAt (k .scheduler) p)) alone (L .rolls .begins)) in
+      let h = by-step k (L .sound) m (λ s y. eqb s 0 ≡ true → heldAt y t ≡ holding Statuses.success (givenWords d k n (m .b) (m .c) (m .messages))) (λ s q w. never w q) (λ e P R w. served-holds e P R _ (first-served e P R g) first) z in
+      record { status = ap (λ (y : Held). y .status) h; words = ap (λ (y : Held). y .words) h }
 
-  module _ (st : StepTo (stepped k m)) where
-    abbrev is : answer k m ≡ answerOf (stepped k m)
-    is = answer-is k (L .sound) m
+  module _ (kept-order : (prioritisesOrDeletesb d n m && doneb (answer k m)) ≡ false) where
+    next-passes : Members.Passes p k (next k m) r (rolled d n m (answer k m) r)
+    unfolding rolled doneb
+    next-passes =
+        by-step k (L .sound) m (λ s y. (eqb s 0 ≡ true → prioritisesOrDeletesb d n m ≡ false) → Members.Passes p k y r (if eqb s 0 then strikeOut d n m r else r))
+        (λ s z f. rw z (record { rolls = L .rolls; gone = λ u c i. absurd (omega (arith, c, i)); held = λ u c. refl })) (λ e P R. carried-passes e P R (e .success) refl)
+        (λ y. by-test (prioritisesOrDeletesb d n m) (λ u. never (and-in (prioritisesOrDeletesb d n m) _ u y) kept-order) (λ u. u))
 
-    pub none-taken : (takesb d n m && doneb (answer k m)) ≡ false
-    unfolding doneb answerOf
-    none-taken = by-test (takesb d n m) (λ g. rw g (ap (λ (y : Answer). eqb (y .status) 0) is ∙ taking-undone g (stepped k m) st)) (λ g. rw g)
+    pub kept : Kept d n m r (answer k m)
+    unfolding next
+    kept = record { begins = next-passes .rolls .begins; gone = next-passes .gone }
 
-    -- who is alone in the roll is served by a giving call
-    pub serves : names r ≡ t ∷ [] → givesb d n m ≡ true → doneb (answer k m) ≡ true → Served d n t k m
-    unfolding doneb next answerOf holding firstAt
-    serves alone g z =
-        let first = Lists.begins-first t [] (lineAt (k .scheduler) p) (subst (λ (l : List ℕ). Begins l (lineAt (k .scheduler) p)) alone (L .rolls .begins)) in
-        let h = ap (λ (y : Answer). heldAt (y .kernel) t) is ∙ giving-holds g first (stepped k m) st (sym (ap (λ (y : Answer). eqb (y .status) 0) is) ∙ z) in
-        record { status = ap (λ (y : Held). y .status) h; words = ap (λ (y : Held). y .words) h }
-
-    module _ (kept-order : (prioritisesOrDeletesb d n m && doneb (answer k m)) ≡ false) where
-      next-passes : Members.Passes p k (next k m) r (rolled d n m (answer k m) r)
-      unfolding next rolled doneb answerOf
-      next-passes =
-          subst (λ (y : Answer). Members.Passes p k (y .kernel) r (if eqb (y .status) 0 then strikeOut d n m r else r)) (sym is)
-          (step-passes (stepped k m) st
-          (λ y. by-test (prioritisesOrDeletesb d n m) (λ u. never (and-in (prioritisesOrDeletesb d n m) (doneb (answer k m)) u (ap doneb is ∙ y)) kept-order) (λ u. u)))
-
-      pub kept : Kept d n m r (answer k m)
-      unfolding next
-      kept = record { begins = next-passes .rolls .begins; gone = next-passes .gone }
-
-      -- the wait goes on where the thread is not strikeOut out
-      pub next-lasts : lastsb t (rolled d n m (answer k m) r) ≡ true → Lasts d n t (next k m) (rolled d n m (answer k m) r)
-      unfolding lastsb
-      next-lasts w =
-          let c = ltb-true 0 (count t (names (rolled d n m (answer k m) r))) w in
-          record { sound = next-sound k (L .sound) m; rolls = next-passes .rolls; stands = c; takes = ap (λ (h : Held). h .sending) (next-passes .held t c) ∙ L .takes }
+    -- the wait goes on where the thread is not struck out
+    pub next-lasts : lastsb t (rolled d n m (answer k m) r) ≡ true → Lasts d n t (next k m) (rolled d n m (answer k m) r)
+    unfolding lastsb
+    next-lasts w =
+        let c = ltb-true 0 (count t (names (rolled d n m (answer k m) r))) w in
+        record { sound = next-sound k (L .sound) m; rolls = next-passes .rolls; stands = c; takes = ap (λ (h : Held). h .sending) (next-passes .held t c) ∙ L .takes }
 
 -- ---- the start
 pub start : (d : Kind) (n : ℕ) (k : Kernel) → Sound k → (ahead : List ℕ) (t : ℕ) → Waits k d n ahead t → Lasts d n t k (startRoll k ahead t)

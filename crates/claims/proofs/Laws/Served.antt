@@ -7,7 +7,6 @@ use native.Mathlib.Omega.{arith}
 use lib.ListN.{length}
 use lib.Dec.{eqb}
 use borrow.Author.Tests.{eqb-true, eq-eqb, ne-eqb, ltb-true}
-use Rattle.lines.specs.Logic.{if_then_else_}
 use Rattle.lines.specs.Lists.{filter, first, count}
 use Rattle.lines.proofs.Laws.Logic.{by-test, by-eq, by-choice, never, and-left, and-right, and-in, implies-out}
 use Rattle.lines.proofs.Laws.Lists
@@ -75,17 +74,6 @@ awake-unfinished : (th : Thread) → finishedb (awake th) ≡ false
 unfolding awake inState
 awake-unfinished th = by-choice (λ (s : ℕ). (eqb s 1 || eqb s 2) ≡ false) (th .suspending) 3 0 (λ e. refl) (λ e. refl)
 
--- only a sleeper's wait runs out with 0x00
-timeout-some : (th : Thread) (h : Held) → 4 < th .state → 0 < timeoutStatus th h
-unfolding timeoutStatus
-timeout-some th h w =
-    rw (ne-eqb (th .state) 4 (λ z. omega (arith, z, w)))
-    (either (eqb (th .state) 5) (either (h .sending) (omega arith) (omega arith)) (either (eqb (th .state) 6) (omega arith) (either (eqb (th .state) 7) (omega arith) (omega arith))))
-  where
-    either : (b : Bool) {x y : ℕ} → 0 < x → 0 < y → 0 < (if b then x else y)
-    either true p q = p
-    either false p q = q
-
 -- an edit neither ends a wait on the object of a place as served nor stores its record
 unfoldable pub apartb : Place → Edit → Bool
 apartb p (moves t (ends (served d i) words)) = not (sameb p (placeOf d i))
@@ -112,7 +100,7 @@ module _ (p : Place) (waiters : 4 < p .state) where
       ∙ sym (ap (λ (b : Bool). not (not b)) (Lines.place-same p (placeOf e i) (one-place p th w (placeOf e i) was)))
   moved-served x u (ends (deleted e i) words) th h w was held seen = unserved x u (λ z. let y = ap (λ (y : Held). y .status) held in omega (arith, y, z))
   moved-served x u (ends timedOut words) th h w was held seen =
-      unserved x u (λ z. let t = timeout-some th h (let s = Fits.placed-state p th w in omega (arith, s, waiters)) in let y = ap (λ (y : Held). y .status) held in omega (arith, t, y, z))
+      unserved x u (λ z. let t : 0 < timeoutStatus th h = Fits.by-timeout (λ s. 0 < s) th h (λ i. absurd (let s = Fits.placed-state p th w in omega (arith, s, waiters, i))) (omega arith) (omega arith) (omega arith) (omega arith) (omega arith) in let y = ap (λ (y : Held). y .status) held in omega (arith, t, y, z))
   moved-served x u (ends aborted words) th h w was held seen = unserved x u (λ z. let y = ap (λ (y : Held). y .status) held in omega (arith, y, z))
   moved-served x u (starts front state object ticks new) th h w was held seen = never (Fits.placed-paused p waiters th w) was
   moved-served x u stops th h w was held seen = finished-unserved x u (ap (λ (y : Thread). finishedb y) seen)

@@ -73,20 +73,16 @@ unfolding edited withScheduler withTicks
 kept-counted k S t G u =
     let A = Fits.one-less k S t (G .0) (G .1) in
     let x = withTicks (threadOf k t .ticks - 1) (threadOf k t) in
-    by-eq u t
-    (λ e. record {
+    record {
       held = scheduler-held k (withThread (k .scheduler) t x) u;
       seen = Orders.kept-all (k .scheduler) S t x (A .small) Fits.seen (A .seen) u;
-      ticks = (let c = ap (λ (v : ℕ). count v (t ∷ [])) e in let h = Lists.count-here t [] in let z = Less.count-none t in
+      ticks = by-eq u t
+          (λ e. let c = ap (λ (v : ℕ). count v (t ∷ [])) e in let h = Lists.count-here t [] in let z = Less.count-none t in
           let q = ap (λ (v : ℕ). threadAt (withThread (k .scheduler) t x) v .ticks) e ∙ ap (λ (y : Thread). y .ticks) (Orders.kept-self (k .scheduler) S t x (A .small)) in
-          let r = ap (λ (v : ℕ). threadOf k v .ticks) e in omega (arith, c, h, z, q, r));
-    })
-    (λ e. record {
-      held = scheduler-held k (withThread (k .scheduler) t x) u;
-      seen = ap Fits.seen (Orders.kept-other (k .scheduler) S t x (A .small) u e);
-      ticks = (let c = Lists.count-there u t [] (λ z. e (sym z)) in let z = Less.count-none u in
+          let r = ap (λ (v : ℕ). threadOf k v .ticks) e in omega (arith, c, h, z, q, r))
+          (λ e. let c = Lists.count-there u t [] (λ z. e (sym z)) in let z = Less.count-none u in
           let q = ap (λ (y : Thread). y .ticks) (Orders.kept-other (k .scheduler) S t x (A .small) u e) in omega (arith, c, z, q));
-    })
+    }
 
 pub kept-moved : (k : Kernel) → Steady (k .scheduler) → (t : ℕ) (m : Move) → Fits.Moved k t m → (u : ℕ) → (u ≡ t → ⊥) → Kept k (edited k (moves t m)) u 0
 unfolding edited withHeld withScheduler heldAt

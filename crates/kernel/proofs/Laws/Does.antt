@@ -56,6 +56,10 @@ pub record Does (k : Kernel) (caller n a b c : ℕ) (messages : List ℕ) (reaso
 pub when : {b : Bool} {A : Type 0} → When b A → b ≡ true → A
 when {b} {A} w e = subst (λ (x : Bool). When x A) e w
 
+-- a call whose role asks nothing of the tables
+pub plain : {k : Kernel} {caller n a b c : ℕ} {messages : List ℕ} {reason : ℕ} {e : Effect} → Role k n a b c messages e → (Sound k → (eqb caller 2 ≡ true → runnerOf k < 32) → reason ≡ 0 → Proper k n a e) → Does k caller n a b c messages reason e
+plain r p = record { proper = p; role = λ S z. r }
+
 abbrev pub none : Unit {0} × Unit {0} × Unit {0} × Unit {0} × Unit {0} × Unit {0} × Unit {0}
 none = (tt, tt, tt, tt, tt, tt, tt)
 

@@ -228,23 +228,19 @@ ends-paused (deleted d n) words th w = placed-paused (placeOf d n) (Objects.stat
 ends-paused timedOut words th w = timed-paused th (last-timed th w)
 ends-paused aborted words th w = w
 
--- no wait ends with the status of waiters
-timeout-known : (th : Thread) (h : Held) → eqb (timeoutStatus th h) Statuses.waiting ≡ false
+-- the statuses with which a wait runs out
+pub by-timeout : (P : ℕ → Type 0) (th : Thread) (h : Held) → (th .state ≡ 4 → P Statuses.success) → P Statuses.queueFull → P Statuses.queueEmpty → P Statuses.noInstance → P Statuses.noEvents → P Statuses.noMemory → P (timeoutStatus th h)
 unfolding timeoutStatus
-timeout-known th h =
-    by-choice P (eqb (th .state) 4) _ _ (λ e. refl) (λ e.
-    by-choice P (eqb (th .state) 5) _ _ (λ f. by-choice P (h .sending) Statuses.queueFull Statuses.queueEmpty (λ g. refl) (λ g. refl)) (λ f.
-    by-choice P (eqb (th .state) 6) _ _ (λ g. refl) (λ g.
-    by-choice P (eqb (th .state) 7) Statuses.noEvents Statuses.noMemory (λ i. refl) (λ i. refl))))
-  where
-    P : ℕ → Type 0
-    P status = eqb status Statuses.waiting ≡ false
+by-timeout P th h sleeps full empty instance events memory =
+    by-choice P (eqb (th .state) 4) _ _ (λ e. sleeps (eqb-true (th .state) 4 e)) (λ e. by-choice P (eqb (th .state) 5) _ _ (λ f. by-choice P (h .sending) _ _ (λ g. full) (λ g. empty)) (λ f.
+    by-choice P (eqb (th .state) 6) _ _ (λ g. instance) (λ g. by-choice P (eqb (th .state) 7) _ _ (λ i. events) (λ i. memory))))
 
+-- no wait ends with the status of waiters
 status-known : (c : Cause) (th : Thread) (h : Held) → eqb (statusBy c th h) Statuses.waiting ≡ false
 unfolding statusBy
 status-known (served d n) th h = refl
 status-known (deleted d n) th h = refl
-status-known timedOut th h = timeout-known th h
+status-known timedOut th h = by-timeout (λ s. eqb s Statuses.waiting ≡ false) th h (λ z. refl) refl refl refl refl refl
 status-known aborted th h = refl
 
 -- ---- sound but for the runner

@@ -19,7 +19,7 @@ use Rattle.calls.specs.declared.held.Held.{Held}
 use Rattle.calls.specs.Held.{noWords, waiting}
 use Rattle.calls.specs.Statuses as Statuses
 use Rattle.calls.specs.Refusals.{unless, firstOf}
-use Rattle.waiting.specs.Fit.{waitsOnb, heldFitb, semaphoreWaitb, poolWaitb}
+use Rattle.waiting.specs.Fit.{waitsOnb, semaphoreWaitb, poolWaitb}
 use Rattle.waiting.proofs.Laws.Held
 use Rattle.kernel.specs.declared.Kernel.{Kernel}
 use Rattle.kernel.specs.Tables.{threadOf, runnerOf, heldAt}
@@ -33,7 +33,7 @@ use Rattle.kernel.specs.Edits.Edit.{ranks, stores}
 use Rattle.kernel.specs.Edits.Success.{done, waits}
 use Rattle.kernel.specs.Roles.{mayMoveb, mayb}
 use Rattle.kernel.specs.Effects.{storeEffect, closeEffect, removeEffect, rankEffect, waitedb, serveEffect, giveEffect, amountOf, oneLess, takeEffect}
-use Rattle.kernel.specs.Uses.{Taker, countedb, newOf, oneGiven, mayGiveb, givenWords, Creates, Takes, Gives}
+use Rattle.kernel.specs.Uses.{Taker, countedb, newOf, oneGiven, mayGiveb, givenWords, Creates, Takes, Gives, Role}
 use Rattle.kernel.proofs.Laws.Answers.{second-none, unless-none}
 use Rattle.kernel.proofs.Laws.Objects
 use Rattle.kernel.proofs.Laws.Fits
@@ -132,80 +132,92 @@ module _ (d : Kind) (k : Kernel) (F : Fit k) (i : ℕ) where
 -- ---- calls that are alike for every kind: create, delete, prioritise
 module _ (k : Kernel) (b c : ℕ) (messages : List ℕ) (caller number n : ℕ) (d : Kind) where
   -- a new object has a fit record, and its number is free
-  module _ (S : Sound k) (status rest : ℕ) (pos : 0 < status) (z : firstOf (unless (ltb n (sizeOf d) && not (createdb d (objectAt d k n))) status) rest ≡ 0) where
-    new : (ltb n (sizeOf d) && not (createdb d (objectAt d k n))) ≡ true
-    new = Effects.is-true _ status rest pos z
-
-    pub create-proper : (rest ≡ 0 → objectFitb d (newOf d b c) ≡ true) → mayb number n (stores d n (newOf d b c)) ≡ true → Does.Proper k number n (storeEffect d n (newOf d b c))
-    unfolding storeEffect
-    create-proper fit m = Effects.proper-store k (S .fit) number n d n (newOf d b c) noWords (new-stored d k (S .fit) n (newOf d b c) new (fit (second-none _ rest z))) m
-
-    pub creates : Creates d k n b c (storeEffect d n (newOf d b c))
-    unfolding storeEffect
-    creates = record { free = not-true _ (and-right (ltb n (sizeOf d)) _ new); small = ltb-true n (sizeOf d) (and-left (ltb n (sizeOf d)) _ new); stored = refl }
+  pub create-does : (status rest : ℕ) → 0 < status → (rest ≡ 0 → objectFitb d (newOf d b c) ≡ true) → mayb number n (stores d n (newOf d b c)) ≡ true → (Creates d k n b c (storeEffect d n (newOf d b c)) → Role k number n b c messages (storeEffect d n (newOf d b c)))
+      → Does.Does k caller number n b c messages (firstOf (unless (ltb n (sizeOf d) && not (createdb d (objectAt d k n))) status) rest) (storeEffect d n (newOf d b c))
+  unfolding storeEffect
+  create-does status rest pos fit m role =
+      let new : firstOf _ rest ≡ 0 → (ltb n (sizeOf d) && not (createdb d (objectAt d k n))) ≡ true = λ z. Effects.is-true _ status rest pos z in
+      record {
+        proper = λ S runs z. Effects.proper-store k (S .fit) number n d n (newOf d b c) noWords (new-stored d k (S .fit) n (newOf d b c) (new z) (fit (second-none _ rest z))) m;
+        role = λ S z. role (record { free = not-true _ (and-right (ltb n (sizeOf d)) _ (new z)); small = ltb-true n (sizeOf d) (and-left (ltb n (sizeOf d)) _ (new z)); stored = refl });
+      }
 
   -- the waiters get 0x01 in line order, the record is zero
-  pub delete-proper : Sound k → (status rest : ℕ) → 0 < status → firstOf (unless (createdb d (objectAt d k n)) status) rest ≡ 0 → objectFitb d (noObject d) ≡ true
-      → ((t : ℕ) → mayMoveb number n t (ends (deleted d n) noWords) ≡ true) → mayb number n (stores d n (noObject d)) ≡ true → Does.Proper k number n (removeEffect k d n)
-  delete-proper S status rest pos z fit m s =
-      close-proper d k (S .fit) n number n (deleted d n) (noObject d) (λ th p. p) (Objects.object-small d k (S .fit) n (Effects.is-true _ status rest pos z)) fit m s
+  pub delete-does : (status rest : ℕ) → 0 < status → objectFitb d (noObject d) ≡ true → ((t : ℕ) → mayMoveb number n t (ends (deleted d n) noWords) ≡ true) → mayb number n (stores d n (noObject d)) ≡ true → Role k number n b c messages (removeEffect k d n)
+      → Does.Does k caller number n b c messages (firstOf (unless (createdb d (objectAt d k n)) status) rest) (removeEffect k d n)
+  delete-does status rest pos fit m s role =
+      Does.plain role (λ S runs z. close-proper d k (S .fit) n number n (deleted d n) (noObject d) (λ th p. p) (Objects.object-small d k (S .fit) n (Effects.is-true _ status rest pos z)) fit m s)
 
-  pub prioritize-proper : Sound k → mayb number n (ranks d n) ≡ true → Does.Proper k number n (rankEffect d n)
+  pub prioritize-does : (reason : ℕ) → mayb number n (ranks d n) ≡ true → Role k number n b c messages (rankEffect d n) → Does.Does k caller number n b c messages reason (rankEffect d n)
   unfolding rankEffect
-  prioritize-proper S m = Effects.proper-rank k (S .fit) number n d n m
+  prioritize-does reason m role = Does.plain role (λ S runs z. Effects.proper-rank k (S .fit) number n d n m)
 
--- ---- calls that take from an object with an account: one at once, or the caller waits
-module _ (k : Kernel) (caller number n : ℕ) (d : Kind) (counted : countedb d ≡ true) (wait : ℕ) (words : List ℕ) where
-  abbrev x : Object d
-  x = objectAt d k n
+  -- ---- calls of objects with an account
+  module _ (counted : countedb d ≡ true) where
+    abbrev x : Object d
+    x = objectAt d k n
 
-  -- whoever waits, waits where there is nothing to take
-  waits-none : (c : Kind) → countedb c ≡ true → (h : Held) (y : Object c) → waitb c h y ≡ (createdb c y && eqb (amountOf c y) 0)
-  unfolding semaphoreWaitb poolWaitb
-  waits-none semaphore e h y = refl
-  waits-none queue e h y = never e refl
-  waits-none group e h y = never e refl
-  waits-none pool e h y = refl
+    -- whoever waits, waits where there is nothing to take
+    waits-none : (d : Kind) → countedb d ≡ true → (h : Held) (y : Object d) → waitb d h y ≡ (createdb d y && eqb (amountOf d y) 0)
+    unfolding semaphoreWaitb poolWaitb
+    waits-none semaphore e h y = refl
+    waits-none queue e h y = never e refl
+    waits-none group e h y = never e refl
+    waits-none pool e h y = refl
 
-  holds : (c : Kind) → countedb c ≡ true → (th : Thread) → th .created ≡ true → th .state ≡ stateOn c → heldFitb th waiting ≡ true
-  holds semaphore y th m e = Held.held-waiting th m (omega (arith, e)) (λ z. omega (arith, e, z)) (λ z. omega (arith, e, z))
-  holds queue y th m e = never y refl
-  holds group y th m e = never y refl
-  holds pool y th m e = Held.held-waiting th m (omega (arith, e)) (λ z. omega (arith, e, z)) (λ z. omega (arith, e, z))
+    other-state : (d : Kind) → countedb d ≡ true → (stateOn d ≡ 5 → ⊥) × (stateOn d ≡ 7 → ⊥)
+    other-state semaphore e = (λ z. omega (arith, z), λ z. omega (arith, z))
+    other-state queue e = never e refl
+    other-state group e = never e refl
+    other-state pool e = (λ z. omega (arith, z), λ z. omega (arith, z))
 
-  abbrev reason : ℕ → ℕ → ℕ
-  reason status none = firstOf (unless (createdb d x) status) (firstOf (unless (eqb wait 0 || eqb caller 2) Statuses.waitError) (unless (ltb 0 wait || ltb 0 (amountOf d x)) none))
+    -- one is taken at once, or the caller waits
+    module _ (wait : ℕ) (words : List ℕ) (status none : ℕ) (pos : 0 < status) (some : 0 < none) (fit : Sound k → createdb d x ≡ true → objectFitb d (oneLess d x) ≡ true) (m : mayb number n (stores d n (oneLess d x)) ≡ true) where
+      abbrev reason : ℕ
+      reason = firstOf (unless (createdb d x) status) (firstOf (unless (eqb wait 0 || eqb caller 2) Statuses.waitError) (unless (ltb 0 wait || ltb 0 (amountOf d x)) none))
 
-  module _ (S : Sound k) where
-    pub take-proper : (eqb caller 2 ≡ true → runnerOf k < 32) → (status none : ℕ) → 0 < status → 0 < none → reason status none ≡ 0 → (createdb d x ≡ true → objectFitb d (oneLess d x) ≡ true) → mayb number n (stores d n (oneLess d x)) ≡ true
-        → Does.Proper k number n (takeEffect d n k words wait)
-    unfolding takeEffect mayMoveb implies
-    take-proper runs status none pos some z fit m =
-        let made = Effects.is-true _ status _ pos z in
-        let may = Effects.is-true _ Statuses.waitError _ (omega arith) (second-none _ _ z) in
-        let w = unless-none _ none some (second-none _ _ (second-none _ _ z)) in
-        by-choice (Does.Proper k number n) (ltb 0 (amountOf d x)) _ _
-        (λ q. let l = ltb-true 0 (amountOf d x) q in
-        Effects.proper-store k (S .fit) number n d n _ words
-        (record {
-          small = Objects.object-small d k (S .fit) n made;
-          fit = fit made;
-          free = λ t. Objects.waits-not d k (S .fit) n t (waits-none d counted (heldAt k t) x ∙ rw (made, ne-eqb (amountOf d x) 0 (λ y. omega (arith, l, y))));
-        }) m)
-        (λ q. let l = ltb-false 0 (amountOf d x) q in
-        let v = Effects.waiter-runs k caller wait runs may (ltb 0 (amountOf d x)) w q in
-        Effects.proper-wait k (S .fit) number n S (v .1) d false n wait waiting (v .0) (holds d counted) (waits-none d counted waiting x ∙ and-in (createdb d x) _ made (eq-eqb (amountOf d x) 0 (omega (arith, l)))) refl)
+      take-proper : Sound k → (eqb caller 2 ≡ true → runnerOf k < 32) → reason ≡ 0 → Does.Proper k number n (takeEffect d n k words wait)
+      unfolding takeEffect mayMoveb implies
+      take-proper S runs z =
+          let made = Effects.is-true _ status _ pos z in
+          let may = Effects.is-true _ Statuses.waitError _ (omega arith) (second-none _ _ z) in
+          let w = unless-none _ none some (second-none _ _ (second-none _ _ z)) in
+          let other = other-state d counted in
+          let low = Objects.state-low d in
+          by-choice (Does.Proper k number n) (ltb 0 (amountOf d x)) _ _
+          (λ q. let l = ltb-true 0 (amountOf d x) q in
+          Effects.proper-store k (S .fit) number n d n _ words
+          (record {
+            small = Objects.object-small d k (S .fit) n made;
+            fit = fit S made;
+            free = λ t. Objects.waits-not d k (S .fit) n t (waits-none d counted (heldAt k t) x ∙ rw (made, ne-eqb (amountOf d x) 0 (λ y. omega (arith, l, y))));
+          }) m)
+          (λ q. let l = ltb-false 0 (amountOf d x) q in
+          let v = Effects.waiter-runs k caller wait runs may (ltb 0 (amountOf d x)) w q in
+          Effects.proper-wait k (S .fit) number n S (v .1) d false n wait waiting (v .0) (λ th i e. Held.held-waiting th i (omega (arith, e, low)) (λ y. other .0 (sym e ∙ y)) (λ y. other .1 (sym e ∙ y)))
+          (waits-none d counted waiting x ∙ and-in (createdb d x) _ made (eq-eqb (amountOf d x) 0 (omega (arith, l)))) refl)
 
-    pub takes : Takes d k n (takeEffect d n k words wait)
-    unfolding takeEffect
-    takes =
-        record {
-          served = λ a. by-choice (λ (e : Effect). e .success ≡ done → (0 < amountOf d x) × (e .edits ≡ stores d n (oneLess d x) ∷ [])) (ltb 0 (amountOf d x)) _ _ (λ q s. (ltb-true 0 (amountOf d x) q, refl)) (λ q s. Does.waits-not-done s);
-          waits = λ a t T. (let none = eqb-true (amountOf d x) 0 (and-right (createdb d x) _ (sym (waits-none d counted (heldAt k t) x) ∙ taker-may d k (S .fit) n t T)) in
-              by-choice (λ (e : Effect). e .success ≡ waits) (ltb 0 (amountOf d x)) _ _ (λ q. absurd (let l = ltb-true 0 (amountOf d x) q in omega (arith, l, none))) (λ q. refl));
-        }
+      takes : Sound k → Takes d k n (takeEffect d n k words wait)
+      unfolding takeEffect
+      takes S =
+          record {
+            served = λ a. by-choice (λ (e : Effect). e .success ≡ done → (0 < amountOf d x) × (e .edits ≡ stores d n (oneLess d x) ∷ [])) (ltb 0 (amountOf d x)) _ _ (λ q s. (ltb-true 0 (amountOf d x) q, refl)) (λ q s. Does.waits-not-done s);
+            waits = λ a t T. (let nothing = eqb-true (amountOf d x) 0 (and-right (createdb d x) _ (sym (waits-none d counted (heldAt k t) x) ∙ taker-may d k (S .fit) n t T)) in
+                by-choice (λ (e : Effect). e .success ≡ waits) (ltb 0 (amountOf d x)) _ _ (λ q. absurd (let l = ltb-true 0 (amountOf d x) q in omega (arith, l, nothing))) (λ q. refl));
+          }
 
-    -- and those that give to it
-    pub gives : (b c : ℕ) (messages : List ℕ) → mayGiveb d x b ≡ true → Gives d k n b c messages (giveEffect d n k (givenWords d k n b c messages) (oneGiven d x b))
+      pub take-does : (Takes d k n (takeEffect d n k words wait) → Role k number n b c messages (takeEffect d n k words wait)) → Does.Does k caller number n b c messages reason (takeEffect d n k words wait)
+      take-does role = record { proper = take-proper; role = λ S z. role (takes S) }
+
+    -- one is given
+    abbrev given : Effect
+    given = giveEffect d n k (givenWords d k n b c messages) (oneGiven d x b)
+
+    pub give-does : (reason : ℕ) → (reason ≡ 0 → createdb d x ≡ true) → (Sound k → reason ≡ 0 → (objectFitb d (oneGiven d x b) ≡ true) × (mayGiveb d x b ≡ true)) → ((t : ℕ) → mayMoveb number n t (ends (served d n) (givenWords d k n b c messages)) ≡ true) → mayb number n (stores d n (oneGiven d x b)) ≡ true
+        → (Gives d k n b c messages given → Role k number n b c messages given) → Does.Does k caller number n b c messages reason given
     unfolding giveEffect serveEffect storeEffect
-    gives b c messages may = record { first = λ a t T. rw (taker-waited d k (S .fit) n t T) refl; stored = λ a q. rw q refl; may = may }
+    give-does reason made fit m s role =
+        record {
+          proper = λ S runs z. give-proper d k (S .fit) n number n _ _ (Objects.object-small d k (S .fit) n (made z)) (fit S z .0) (m _) s;
+          role = λ S z. role (record { first = λ a t T. rw (taker-waited d k (S .fit) n t T) refl; stored = λ a q. rw q refl; may = fit S z .1 });
+        }

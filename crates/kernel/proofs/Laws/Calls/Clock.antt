@@ -1,5 +1,5 @@
 -- Calls 13 to 15: what each does.
-use mathlib.Core.Path.{_≡_, refl, sym, ap, _∙_}
+use mathlib.Core.Path.{_≡_, refl, ap, _∙_}
 use mathlib.Core.List.{List, [], _∷_, _++_, append-nil}
 use mathlib.Core.Bool.{Bool, true, false}
 use Prim.Native.Nat.{ℕ, zero, suc, _+_, _<_, _≤_}
@@ -18,8 +18,8 @@ use Rattle.calls.specs.Refusals.{tickRefusal}
 use Rattle.waiting.specs.Ticks.{timedb, lastTickb}
 use Rattle.kernel.specs.declared.Kernel.{Kernel}
 use Rattle.kernel.specs.Tables.{threadOf}
-use Rattle.kernel.specs.Sound.{Fit, Sound}
-use Rattle.kernel.specs.Edits.{Edit, anyb, startsb, mover, movers, gathered, applied}
+use Rattle.kernel.specs.Sound.{Fit}
+use Rattle.kernel.specs.Edits.{Edit, applied, gathered, mover, anyb, startsb}
 use Rattle.kernel.specs.Edits.Cause.{timedOut}
 use Rattle.kernel.specs.Edits.Move.{ends}
 use Rattle.kernel.specs.Edits.Edit.{moves, counts, sets}
@@ -28,7 +28,7 @@ use Rattle.kernel.specs.Roles.{mayMoveb, mayb, allb}
 use Rattle.kernel.specs.Effects.{oneMore}
 use Rattle.kernel.specs.Clock.{clockEffect, clockSetEffect, tickOf, ticksBelow, tickEffect}
 use Rattle.kernel.proofs.Laws.Edits
-use Rattle.kernel.proofs.Laws.Waits.{tick-movers, below-other, more-below}
+use Rattle.kernel.proofs.Laws.Waits.{tick-movers, below-other}
 use Rattle.kernel.proofs.Laws.Fits
 use Rattle.kernel.proofs.Laws.Lines
 use Rattle.kernel.proofs.Laws.Does
@@ -91,19 +91,16 @@ below-fits k F (suc n) =
 module _ (k : Kernel) (b c : ℕ) (messages : List ℕ) (caller a : ℕ) where
   pub get-does : Does.Does k caller 13 a b c messages 0 (clockEffect k)
   unfolding clockEffect
-  get-does = record { proper = λ S runs z. Effects.proper-none k (S .fit) 13 a _; role = λ S z. Does.none }
+  get-does = Does.plain Does.none (λ S runs z. Effects.proper-none k (S .fit) 13 a _)
 
   pub set-does : (time : ℕ) → Does.Does k caller 14 a b c messages 0 (clockSetEffect time)
   unfolding clockSetEffect allb mayb Lines.unstartedb
-  set-does time = record { proper = λ S runs z. Effects.proper-one k (S .fit) 14 a done noWords false (sets time) tt tt refl refl; role = λ S z. Does.none }
+  set-does time = Does.plain Does.none (λ S runs z. Effects.proper-one k (S .fit) 14 a done noWords false (sets time) tt tt refl refl)
 
   pub tick-does : Does.Does k caller 15 a b c messages (tickRefusal caller) (tickEffect k)
   unfolding tickEffect allb mayb mayMoveb startsb gathered Lines.unstartedb
   tick-does =
-      record {
-        proper = λ S runs z. (let es = ticksBelow 32 k in
-            let clock = sets (oneMore (k .clock)) ∷ [] in
-            Effects.proper-all k (S .fit) 15 a (es ++ clock) noWords (Effects.fits-append k es clock (below-fits k (S .fit) 32) ((tt, tt), tt)) (tick-once k (mover anyb) lastTickb (λ i. refl) (λ th t. tick-movers k t th anyb refl))
-            (Edits.all-append (mayb 15 a) es clock (below-all (mayb 15 a) (λ t. refl) (λ t. refl) k 32) refl) (Edits.all-append Lines.unstartedb es clock (below-all Lines.unstartedb (λ t. refl) (λ t. refl) k 32) refl));
-        role = λ S z. (tt, tt, tt, tt, tt, tt, refl);
-      }
+      Does.plain (tt, tt, tt, tt, tt, tt, refl) (λ S runs z. let es = ticksBelow 32 k in
+      let clock = sets (oneMore (k .clock)) ∷ [] in
+      Effects.proper-all k (S .fit) 15 a (es ++ clock) noWords (Effects.fits-append k es clock (below-fits k (S .fit) 32) ((tt, tt), tt)) (tick-once k (mover anyb) lastTickb (λ i. refl) (λ th t. tick-movers k t th anyb refl))
+      (Edits.all-append (mayb 15 a) es clock (below-all (mayb 15 a) (λ t. refl) (λ t. refl) k 32) refl) (Edits.all-append Lines.unstartedb es clock (below-all Lines.unstartedb (λ t. refl) (λ t. refl) k 32) refl))

@@ -75,19 +75,11 @@ module _ (k : Kernel) (b c : ℕ) (messages : List ℕ) (caller n : ℕ) where
   -- ---- 29, 30
   pub create-does : Does.Does k caller 29 n b c messages (groupCreateRefusal n (groupAt k n) caller) (storeEffect group n (groupWith 0))
   unfolding groupCreateRefusal mayb
-  create-does =
-      record {
-        proper = λ S runs z. Uses.create-proper k b c messages caller 29 n group S Statuses.groupError _ (omega arith) z (λ y. with-fit 0) (Effects.here n);
-        role = λ S z. (Uses.creates k b c messages caller 29 n group S Statuses.groupError _ (omega arith) z, tt, tt, tt, tt, tt, tt);
-      }
+  create-does = Uses.create-does k b c messages caller 29 n group Statuses.groupError _ (omega arith) (λ z. with-fit 0) (Effects.here n) (λ C. (C, tt, tt, tt, tt, tt, tt))
 
   pub delete-does : Does.Does k caller 30 n b c messages (groupDeleteRefusal (groupAt k n) caller) (removeEffect k group n)
   unfolding groupDeleteRefusal mayMoveb mayb
-  delete-does =
-      record {
-        proper = λ S runs z. Uses.delete-proper k b c messages caller 30 n group S Statuses.groupError _ (omega arith) z Records.none-fit (λ t. Effects.here n) (Effects.here n);
-        role = λ S z. Does.none;
-      }
+  delete-does = Uses.delete-does k b c messages caller 30 n group Statuses.groupError _ (omega arith) Records.none-fit (λ t. Effects.here n) (Effects.here n) Does.none
 
   -- ---- 31
   -- those whose requests the flags meet are served, and who is left is not met

@@ -97,23 +97,15 @@ module _ (k : Kernel) (b c : ℕ) (messages : List ℕ) (caller n : ℕ) where
   -- ---- 22, 23, 28
   pub create-does : Does.Does k caller 22 n b c messages (queueCreateRefusal n q b c caller) (storeEffect queue n (emptyQueue b c))
   unfolding queueCreateRefusal mayb
-  create-does =
-      record {
-        proper = λ S runs z. Uses.create-proper k b c messages caller 22 n queue S Statuses.queueError _ (omega arith) z (λ y. Records.of-fit b c (Effects.is-true (sizesFitb b c) Statuses.sizeError _ (omega arith) y)) (Effects.here n);
-        role = λ S z. (Uses.creates k b c messages caller 22 n queue S Statuses.queueError _ (omega arith) z, tt, tt, tt, tt, tt, tt);
-      }
+  create-does = Uses.create-does k b c messages caller 22 n queue Statuses.queueError _ (omega arith) (λ z. Records.of-fit b c (Effects.is-true (sizesFitb b c) Statuses.sizeError _ (omega arith) z)) (Effects.here n) (λ C. (C, tt, tt, tt, tt, tt, tt))
 
   pub delete-does : Does.Does k caller 23 n b c messages (queueDeleteRefusal q caller) (removeEffect k queue n)
   unfolding queueDeleteRefusal mayMoveb mayb
-  delete-does =
-      record {
-        proper = λ S runs z. Uses.delete-proper k b c messages caller 23 n queue S Statuses.queueError _ (omega arith) z Records.none-fit (λ t. Effects.here n) (Effects.here n);
-        role = λ S z. Does.none;
-      }
+  delete-does = Uses.delete-does k b c messages caller 23 n queue Statuses.queueError _ (omega arith) Records.none-fit (λ t. Effects.here n) (Effects.here n) Does.none
 
   pub prioritize-does : Does.Does k caller 28 n b c messages (queueRefusal q) (rankEffect queue n)
   unfolding mayb
-  prioritize-does = record { proper = λ S runs z. Uses.prioritize-proper k b c messages caller 28 n queue S (Effects.here n); role = λ S z. Does.none }
+  prioritize-does = Uses.prioritize-does k b c messages caller 28 n queue _ (Effects.here n) Does.none
 
   -- ---- 24 and 25: one law for both numbers
   module _ (wait : ℕ) (front : Bool) where

@@ -2,7 +2,7 @@
 use mathlib.Core.Path.{_≡_, refl, ap}
 use mathlib.Core.List.{List, [], _∷_}
 use mathlib.Core.Bool.{Bool, true, false, _&&_, _||_, not}
-use Prim.Native.Nat.{ℕ, _≤_, _<_, min}
+use Prim.Native.Nat.{ℕ, _<_, min}
 use Prim.{tt}
 use native.Mathlib.Omega.{arith}
 use lib.Dec.{eqb, ltb, leb}
@@ -10,6 +10,7 @@ use borrow.Author.Tests.{ltb-true, leb-true, eqb-true, eqb-false, eq-eqb}
 use Rattle.lines.specs.Logic.{if_then_else_, implies}
 use Rattle.lines.proofs.Laws.Logic.{by-test, by-choice, never, and-left, and-right, or-rest}
 use Rattle.scheduler.specs.declared.thread.Thread.{Thread}
+use Rattle.scheduler.specs.declared.thread.Place.{Place}
 use Rattle.scheduler.specs.Threads.{uncreated, readyb, waitsb, pausedb, standsb, numberOf, placedb, inState, atRest, withSuspension, created}
 use Rattle.scheduler.specs.Changes.{withLevels}
 use Rattle.scheduler.specs.Sound.{fitb}
@@ -19,6 +20,7 @@ use Rattle.calls.specs.declared.held.Held.{Held}
 use Rattle.calls.specs.Held.{noWords, oneWord, waiting}
 use Rattle.calls.specs.Statuses as Statuses
 use Rattle.calls.specs.Refusals.{finishedb, createRefusal, deleteRefusal, resumeRefusal, suspendRefusal, terminateRefusal, resetRefusal, threadOnlyRefusal, abortRefusal, priorityRefusal, preemptionRefusal, readRefusal}
+use Rattle.waiting.specs.Fit.{heldFitb}
 use Rattle.waiting.proofs.Laws.Held
 use Rattle.kernel.specs.declared.Kernel.{Kernel}
 use Rattle.kernel.specs.Tables.{threadOf, runnerOf, heldAt}
@@ -58,19 +60,18 @@ module _ (k : Kernel) (F : Fit k) (t : ℕ) (made : threadOf k t .created ≡ tr
   fit-old : fitb (threadOf k t) ≡ true
   fit-old = F .steady .fit t small
 
-  -- at rest, and nothing held
+  -- from one state at rest to another, and something else held or the same
+  turns-rest : (n a state : ℕ) (g : Held → Held) → state < 4 → threadOf k t .state < 4 → heldFitb (atRest state (threadOf k t)) (g (heldAt k t)) ≡ true → Does.Proper k n a (does (moves t (turns (atRest state) g) ∷ []))
+  unfolding inState
+  turns-rest n a state g l was holds = Effects.proper-turn k F n a t (atRest state) g noWords false small (States.rest-not-paused (threadOf k t) was) (States.fit-at-rest state (threadOf k t) made fit-old l) l holds
+
   rests : (n a state : ℕ) → state < 4 → threadOf k t .state < 4 → Does.Proper k n a (restEffect t state)
   unfolding restEffect inState
-  rests n a state l was =
-      Effects.proper-turn k F n a t (atRest state) clears noWords false small (States.rest-not-paused (threadOf k t) was) (States.fit-at-rest state (threadOf k t) made fit-old l) l
-      (Held.held-status (atRest state (threadOf k t)) made l 0 noWords refl)
+  rests n a state l was = turns-rest n a state clears l was (Held.held-status (atRest state (threadOf k t)) made l 0 noWords refl)
 
-  -- from one state at rest to another
   rested : (n a state : ℕ) → state < 4 → threadOf k t .state < 4 → Does.Proper k n a (does (moves t (turns (atRest state) keeps) ∷ []))
   unfolding inState
-  rested n a state l was =
-      Effects.proper-turn k F n a t (atRest state) keeps noWords false small (States.rest-not-paused (threadOf k t) was) (States.fit-at-rest state (threadOf k t) made fit-old l) l
-      (Held.held-same (atRest state (threadOf k t)) (threadOf k t) made l made was (heldAt k t) (F .held t small))
+  rested n a state l was = turns-rest n a state keeps l was (Held.held-same (atRest state (threadOf k t)) (threadOf k t) made l made was (heldAt k t) (F .held t small))
 
   -- a suspension held or lifted
   suspension : (b : Bool) → (b ≡ true → pausedb (threadOf k t) ≡ true) → Fits.Altered k t (withSuspension b (threadOf k t))
@@ -80,27 +81,10 @@ module _ (k : Kernel) (F : Fit k) (t : ℕ) (made : threadOf k t .created ≡ tr
   lowered-fit : (p : ℕ) → p < 32 → fitb (lowered p (threadOf k t)) ≡ true
   lowered-fit p low = Records.fit-levels p (min (threadOf k t .threshold) p) (threadOf k t) fit-old made low (omega arith)
 
-  lowers : (p : ℕ) → p < 32 → readyb (threadOf k t) ≡ false → Fits.Altered k t (lowered p (threadOf k t))
+  -- another priority and threshold, where the place stays
+  levels : (p h : ℕ) → fitb (withLevels p h (threadOf k t)) ≡ true → ((q : Place) → placedb q (withLevels p h (threadOf k t)) ≡ placedb q (threadOf k t)) → Fits.Altered k t (withLevels p h (threadOf k t))
   unfolding Fits.seen withLevels
-  lowers p low r =
-      record {
-        small = small;
-        fit = lowered-fit p low;
-        stands = Records.levels-stands p (min (threadOf k t .threshold) p) (threadOf k t);
-        placed = λ q. Records.levels-placed p (min (threadOf k t .threshold) p) (threadOf k t) r q;
-        seen = refl;
-      }
-
-  threshold : (h : ℕ) → h ≤ threadOf k t .priority → Fits.Altered k t (withLevels (threadOf k t .priority) h (threadOf k t))
-  unfolding Fits.seen withLevels
-  threshold h le =
-      record {
-        small = small;
-        fit = Records.fit-levels (threadOf k t .priority) h (threadOf k t) fit-old made (Records.fit-low (threadOf k t) fit-old) le;
-        stands = Records.levels-stands (threadOf k t .priority) h (threadOf k t);
-        placed = λ q. Records.same-levels-placed h (threadOf k t) q;
-        seen = refl;
-      }
+  levels p h fit placed = record { small = small; fit = fit; stands = Records.levels-stands p h (threadOf k t); placed = placed; seen = refl }
 
 module _ (k : Kernel) (b c : ℕ) (messages : List ℕ) (caller t : ℕ) where
   abbrev th : Thread
@@ -123,17 +107,14 @@ module _ (k : Kernel) (b c : ℕ) (messages : List ℕ) (caller t : ℕ) where
       (Held.held-status new refl l 0 noWords refl)
 
   pub create-does : (p h start : ℕ) → Does.Does k caller 1 t b c messages (createRefusal t th p h start caller) (createEffect t p h start)
-  create-does p h start = record { proper = λ S runs z. create-new p h start S z; role = λ S z. Does.none }
+  create-does p h start = Does.plain Does.none (λ S runs z. create-new p h start S z)
 
   -- ---- 2
   pub delete-does : Does.Does k caller 2 t b c messages (deleteRefusal th caller) (deleteEffect t)
   unfolding deleteRefusal deleteEffect uncreated
   delete-does =
-      record {
-        proper = λ S runs z. Effects.proper-turn k (S .fit) 2 t t (λ y. uncreated) clears noWords false (small k (S .fit) t (Effects.is-true _ Statuses.threadError _ (omega arith) z))
-            (States.rest-not-paused th (finished-low th (unless-none _ Statuses.deleteError (omega arith) (second-none _ _ (second-none _ _ z))))) States.fit-none (omega arith) Held.held-none;
-        role = λ S z. Does.none;
-      }
+      Does.plain Does.none (λ S runs z. Effects.proper-turn k (S .fit) 2 t t (λ y. uncreated) clears noWords false (small k (S .fit) t (Effects.is-true _ Statuses.threadError _ (omega arith) z))
+      (States.rest-not-paused th (finished-low th (unless-none _ Statuses.deleteError (omega arith) (second-none _ _ (second-none _ _ z))))) States.fit-none (omega arith) Held.held-none)
 
   -- ---- 3
   -- who can be resumed and holds no suspension is suspended
@@ -146,27 +127,21 @@ module _ (k : Kernel) (b c : ℕ) (messages : List ℕ) (caller t : ℕ) where
   pub resume-does : Does.Does k caller 3 t b c messages (resumeRefusal th) (resumeEffect k t)
   unfolding resumeRefusal resumeEffect mayb withSuspension
   resume-does =
-      record {
-        proper = λ S runs z. (let made = Effects.is-true _ Statuses.threadError _ (omega arith) z in
-            by-choice (Does.Proper k 3 t) (th .suspending) _ _
-            (λ q. Effects.proper-one k (S .fit) 3 t lifted noWords false (alters t (withSuspension false)) (suspension k (S .fit) t made false (λ w. never w refl), refl) tt refl (t, withSuspension false, refl))
-            (λ q. rested k (S .fit) t made 3 t 0 (omega arith) (suspended-low q (unless-none _ Statuses.resumeError (omega arith) (second-none _ _ z)))));
-        role = λ S z. Does.none;
-      }
+      Does.plain Does.none (λ S runs z. (let made = Effects.is-true _ Statuses.threadError _ (omega arith) z in
+      by-choice (Does.Proper k 3 t) (th .suspending) _ _
+      (λ q. Effects.proper-one k (S .fit) 3 t lifted noWords false (alters t (withSuspension false)) (suspension k (S .fit) t made false (λ w. never w refl), refl) tt refl (t, withSuspension false, refl))
+      (λ q. rested k (S .fit) t made 3 t 0 (omega arith) (suspended-low q (unless-none _ Statuses.resumeError (omega arith) (second-none _ _ z))))))
 
   -- ---- 4
   pub suspend-does : Does.Does k caller 4 t b c messages (suspendRefusal th) (suspendEffect k t)
   unfolding suspendRefusal suspendEffect withSuspension
   suspend-does =
-      record {
-        proper = λ S runs z. (let made = Effects.is-true _ Statuses.threadError _ (omega arith) z in
-            by-choice (Does.Proper k 4 t) (pausedb th) _ _
-            (λ q. Effects.proper-alter k (S .fit) 4 t t (withSuspension true) noWords (suspension k (S .fit) t made true (λ w. q)) refl)
-            (λ q. by-choice (Does.Proper k 4 t) (readyb th) _ _
-            (λ r. rested k (S .fit) t made 4 t 3 (omega arith) (ready-low th r))
-            (λ r. Effects.proper-none k (S .fit) 4 t noWords)));
-        role = λ S z. Does.none;
-      }
+      Does.plain Does.none (λ S runs z. (let made = Effects.is-true _ Statuses.threadError _ (omega arith) z in
+      by-choice (Does.Proper k 4 t) (pausedb th) _ _
+      (λ q. Effects.proper-alter k (S .fit) 4 t t (withSuspension true) noWords (suspension k (S .fit) t made true (λ w. q)) refl)
+      (λ q. by-choice (Does.Proper k 4 t) (readyb th) _ _
+      (λ r. rested k (S .fit) t made 4 t 3 (omega arith) (ready-low th r))
+      (λ r. Effects.proper-none k (S .fit) 4 t noWords))))
 
   -- ---- 5
   stops-proper : Sound k → th .created ≡ true → Does.Proper k 5 t (does (moves t stops ∷ []))
@@ -179,19 +154,13 @@ module _ (k : Kernel) (b c : ℕ) (messages : List ℕ) (caller t : ℕ) where
   pub terminate-does : Does.Does k caller 5 t b c messages (terminateRefusal th caller) (terminateEffect k t)
   unfolding terminateRefusal terminateEffect
   terminate-does =
-      record {
-        proper = λ S runs z. by-choice (Does.Proper k 5 t) (finishedb th) _ _ (λ q. Effects.proper-none k (S .fit) 5 t noWords) (λ q. stops-proper S (Effects.is-true _ Statuses.threadError _ (omega arith) z));
-        role = λ S z. (tt, tt, tt, tt, refl, tt, tt);
-      }
+      Does.plain (tt, tt, tt, tt, refl, tt, tt) (λ S runs z. by-choice (Does.Proper k 5 t) (finishedb th) _ _ (λ q. Effects.proper-none k (S .fit) 5 t noWords) (λ q. stops-proper S (Effects.is-true _ Statuses.threadError _ (omega arith) z)))
 
   -- ---- 6
   pub reset-does : Does.Does k caller 6 t b c messages (resetRefusal th caller) (restEffect t 3)
   unfolding resetRefusal
   reset-does =
-      record {
-        proper = λ S runs z. rests k (S .fit) t (Effects.is-true _ Statuses.threadError _ (omega arith) z) 6 t 3 (omega arith) (finished-low th (unless-none _ Statuses.notDone (omega arith) (second-none _ _ (second-none _ _ z))));
-        role = λ S z. Does.none;
-      }
+      Does.plain Does.none (λ S runs z. rests k (S .fit) t (Effects.is-true _ Statuses.threadError _ (omega arith) z) 6 t 3 (omega arith) (finished-low th (unless-none _ Statuses.notDone (omega arith) (second-none _ _ (second-none _ _ z)))))
 
   -- ---- 7, 8, 9: the running thread
   abbrev r : ℕ
@@ -205,67 +174,55 @@ module _ (k : Kernel) (b c : ℕ) (messages : List ℕ) (caller t : ℕ) where
   runner-low S l = let z = Effects.runner-ready k S l in omega (arith, z)
 
   pub finish-does : Does.Does k caller 7 t b c messages (threadOnlyRefusal caller) (restEffect r 1)
-  finish-does = record { proper = λ S runs z. (let l = runner-small runs z in rests k (S .fit) r (Effects.runner-made k S l) 7 t 1 (omega arith) (runner-low S l)); role = λ S z. Does.none }
+  finish-does = Does.plain Does.none (λ S runs z. (let l = runner-small runs z in rests k (S .fit) r (Effects.runner-made k S l) 7 t 1 (omega arith) (runner-low S l)))
 
   pub relinquish-does : Does.Does k caller 8 t b c messages (threadOnlyRefusal caller) (relinquishEffect k)
   unfolding relinquishEffect
   relinquish-does =
-      record {
-        proper = λ S runs z. (let l = runner-small runs z in
-            Effects.proper-turn k (S .fit) 8 t r (λ y. y) keeps noWords true l (States.rest-not-paused (threadOf k r) (runner-low S l)) (S .fit .steady .fit r l) (runner-low S l) (S .fit .held r l));
-        role = λ S z. Does.none;
-      }
+      Does.plain Does.none (λ S runs z. (let l = runner-small runs z in
+      Effects.proper-turn k (S .fit) 8 t r (λ y. y) keeps noWords true l (States.rest-not-paused (threadOf k r) (runner-low S l)) (S .fit .steady .fit r l) (runner-low S l) (S .fit .held r l)))
 
   pub sleep-does : (ticks : ℕ) → Does.Does k caller 9 t b c messages (threadOnlyRefusal caller) (sleepEffect k ticks)
   unfolding inState implies mayMoveb sleepEffect
   sleep-does ticks =
-      record {
-        proper = λ S runs z. by-choice (Does.Proper k 9 t) (eqb ticks 0) _ _
-            (λ q. Effects.proper-none k (S .fit) 9 t noWords)
-            (λ q. Effects.proper-start k (S .fit) 9 t S (runner-small runs z) false 4 0 ticks waiting (omega arith) (omega arith) (λ y. refl) (let some = eqb-false ticks 0 q in omega (arith, some))
-            (λ y m e. Held.held-waiting y m (omega (arith, e)) (λ i. omega (arith, e, i)) (λ i. omega (arith, e, i)))
-            (Fits.wait-none k (inState 4 0 ticks (threadOf k r)) waiting (omega arith)) refl);
-        role = λ S z. Does.none;
-      }
+      Does.plain Does.none (λ S runs z. by-choice (Does.Proper k 9 t) (eqb ticks 0) _ _
+      (λ q. Effects.proper-none k (S .fit) 9 t noWords)
+      (λ q. Effects.proper-start k (S .fit) 9 t S (runner-small runs z) false 4 0 ticks waiting (omega arith) (omega arith) (λ y. refl) (let some = eqb-false ticks 0 q in omega (arith, some))
+      (λ y m e. Held.held-waiting y m (omega (arith, e)) (λ i. omega (arith, e, i)) (λ i. omega (arith, e, i)))
+      (Fits.wait-none k (inState 4 0 ticks (threadOf k r)) waiting (omega arith)) refl))
 
   -- ---- 10
   pub abort-does : Does.Does k caller 10 t b c messages (abortRefusal th) (abortEffect t)
   unfolding abortRefusal abortEffect mayMoveb
   abort-does =
-      record {
-        proper = λ S runs z. Effects.proper-end k (S .fit) 10 t t aborted noWords (unless-none _ Statuses.waitAbortError (omega arith) (second-none _ _ z)) (eq-eqb t t refl);
-        role = λ S z. (tt, tt, tt, tt, tt, refl, tt);
-      }
+      Does.plain (tt, tt, tt, tt, tt, refl, tt) (λ S runs z. Effects.proper-end k (S .fit) 10 t t aborted noWords (unless-none _ Statuses.waitAbortError (omega arith) (second-none _ _ z)) (eq-eqb t t refl))
 
   -- ---- 11, 12
   pub priority-does : (p : ℕ) → Does.Does k caller 11 t b c messages (priorityRefusal th p caller) (priorityEffect k t p)
   unfolding priorityRefusal priorityEffect withLevels
   priority-does p =
-      record {
-        proper = λ S runs z. (let made = Effects.is-true _ Statuses.threadError _ (omega arith) z in
-            let low = ltb-true p 32 (Effects.is-true (ltb p 32) Statuses.priorityError _ (omega arith) (second-none _ _ z)) in
-            by-choice (λ (es : List Edit). Does.Proper k 11 t (gives (oneWord (th .priority)) es)) (readyb th) _ _
-            (λ y. let l = ready-low th y in
-            Effects.proper-turn k (S .fit) 11 t t (lowered p) keeps _ false (small k (S .fit) t made) (States.rest-not-paused th l) (lowered-fit k (S .fit) t made p low) l
-            (Held.held-same (lowered p th) th made l made l (heldAt k t) (S .fit .held t (small k (S .fit) t made))))
-            (λ y. Effects.proper-alter k (S .fit) 11 t t (lowered p) _ (lowers k (S .fit) t made p low y) refl));
-        role = λ S z. Does.none;
-      }
+      Does.plain Does.none (λ S runs z. (let made = Effects.is-true _ Statuses.threadError _ (omega arith) z in
+      let low = ltb-true p 32 (Effects.is-true (ltb p 32) Statuses.priorityError _ (omega arith) (second-none _ _ z)) in
+      by-choice (λ (es : List Edit). Does.Proper k 11 t (gives (oneWord (th .priority)) es)) (readyb th) _ _
+      (λ y. let l = ready-low th y in
+      Effects.proper-turn k (S .fit) 11 t t (lowered p) keeps _ false (small k (S .fit) t made) (States.rest-not-paused th l) (lowered-fit k (S .fit) t made p low) l
+      (Held.held-same (lowered p th) th made l made l (heldAt k t) (S .fit .held t (small k (S .fit) t made))))
+      (λ y. Effects.proper-alter k (S .fit) 11 t t (lowered p) _ (levels k (S .fit) t made p _ (lowered-fit k (S .fit) t made p low) (λ q. Records.levels-placed p _ th y q)) refl)))
 
   pub preemption-does : (h : ℕ) → Does.Does k caller 12 t b c messages (preemptionRefusal th h caller) (preemptionEffect k t h)
   unfolding preemptionRefusal preemptionEffect withLevels
   preemption-does h =
-      record {
-        proper = λ S runs z. Effects.proper-alter k (S .fit) 12 t t (λ y. withLevels (y .priority) h y) _
-            (threshold k (S .fit) t (Effects.is-true _ Statuses.threadError _ (omega arith) z) h (leb-true h (th .priority) (Effects.is-true _ Statuses.threshError _ (omega arith) (second-none _ _ z)))) refl;
-        role = λ S z. Does.none;
-      }
+      Does.plain Does.none (λ S runs z. Effects.proper-alter k (S .fit) 12 t t (λ y. withLevels (y .priority) h y) _
+      (let made = Effects.is-true _ Statuses.threadError _ (omega arith) z in
+      let le = leb-true h (th .priority) (Effects.is-true _ Statuses.threshError _ (omega arith) (second-none _ _ z)) in
+      let fit = fit-old k (S .fit) t made in
+      levels k (S .fit) t made (th .priority) h (Records.fit-levels (th .priority) h th fit made (Records.fit-low th fit) le) (λ q. Records.same-levels-placed h th q)) refl)
 
   -- ---- 38, 39
   pub state-does : Does.Does k caller 38 t b c messages (readRefusal th) (stateEffect k t)
   unfolding stateEffect
-  state-does = record { proper = λ S runs z. Effects.proper-none k (S .fit) 38 t _; role = λ S z. Does.none }
+  state-does = Does.plain Does.none (λ S runs z. Effects.proper-none k (S .fit) 38 t _)
 
   pub words-does : Does.Does k caller 39 t b c messages (readRefusal th) (wordsEffect k t)
   unfolding wordsEffect
-  words-does = record { proper = λ S runs z. Effects.proper-none k (S .fit) 39 t _; role = λ S z. Does.none }
+  words-does = Does.plain Does.none (λ S runs z. Effects.proper-none k (S .fit) 39 t _)
