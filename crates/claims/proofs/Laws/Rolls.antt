@@ -55,10 +55,6 @@ pub record Lasts (d : Kind) (n t : ℕ) (k : Kernel) (r : List Entry) : Type 0 w
   pub stands : 0 < count t (names r)
   pub takes : heldAt k t .sending ≡ false
 
--- a call with 0x00 does not wait
-not-waits : {P : Type 0} {s : Success} → s ≡ done → s ≡ waits → P
-not-waits a b = absurd (let z : _≡_ {A = ℕ} 0 1 = cc in omega arith)
-
 module _ (d : Kind) (o : rolledb d ≡ true) (n t : ℕ) (k : Kernel) (r : List Entry) (L : Lasts d n t k r) (m : Request) where
   abbrev F : Fit k
   F = L .sound .fit
@@ -152,7 +148,7 @@ module _ (d : Kind) (o : rolledb d ≡ true) (n t : ℕ) (k : Kernel) (r : List 
       other-passes : givesb d n m ≡ false → (eqb (m .number) 5 || eqb (m .number) 10) ≡ false → eqb (m .number) 15 ≡ false → Members.Passes p k x r r
       unfolding gathered
       other-passes g i j =
-          let taken : takesb d n m ≡ false = by-test (takesb d n m) (λ y. not-waits z (Serving.takes-at d n low m k e R y .waits o t taker)) (λ y. y) in
+          let taken : takesb d n m ≡ false = by-test (takesb d n m) (λ y. Does.waits-not-done (sym (Serving.takes-at d n low m k e R y .waits o t taker) ∙ z)) (λ y. y) in
           by-test (onb n m (rowOf d .empties))
           (λ y. Members.passes-same p k x r (left-by [] (Serving.empties-at d n low m k e R y t taker)) (L .rolls))
           (λ y. Members.passes-same p k x r (let (a, b) = Serving.nobody-leaves d n low m kept-order g taken y i j es (P .may) in rw (a, b) at (left-by es refl)) (L .rolls))
@@ -189,7 +185,7 @@ module _ (d : Kind) (o : rolledb d ≡ true) (n t : ℕ) (k : Kernel) (r : List 
         Members.passes-same p k x r
         (Serving.leaves-none p waiters k F (m .number) (target m) e P v front state object ticks h q
         (λ f. by-test (placedb p (inState state object ticks (threadOf k v)))
-        (λ a. not-waits (ap (λ (y : Effect). y .success) (first-served (front-gives v state object ticks h (rw f at may) a))) z)
+        (λ a. Does.waits-not-done (sym z ∙ ap (λ (y : Effect). y .success) (first-served (front-gives v state object ticks h (rw f at may) a))))
         (λ a. a))) (L .rolls)
     starts-passes v stops s q z = never s refl
     starts-passes v (turns f g) s q z = never s refl

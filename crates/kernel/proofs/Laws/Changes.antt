@@ -89,23 +89,15 @@ unfolding edited withHeld withScheduler heldAt
 kept-moved k S t m G u e =
     kept-same k _ u (getD-set-other (k .held) t u _ noHeld e) (Fits.joined-other (k .scheduler) S (frontb m) t (recordBy m (threadOf k t)) (G .small) u e)
 
-kept-ranked : (k : Kernel) (s : Scheduler) (u : ℕ) → threadAt s u ≡ threadOf k u → Kept k (withScheduler k s) u 0
-unfolding withScheduler
-kept-ranked k s u e = kept-same k (withScheduler k s) u (scheduler-held k s u) e
-
-kept-clock : (k : Kernel) (c u : ℕ) → Kept k (withClock k c) u 0
-unfolding withClock heldAt
-kept-clock k c u = kept-same k (withClock k c) u refl refl
-
 kept-edit : (k : Kernel) → Steady (k .scheduler) → (e : Edit) → Fits.Requires k e → (u : ℕ) → count u (movers anyb (e ∷ [])) ≡ 0 → Kept k (edited k e) u (count u (counted (e ∷ [])))
-unfolding edited gathered count prioritisedAt withOrder threadAt heldAt
+unfolding edited gathered count prioritisedAt withOrder withScheduler withClock threadAt heldAt
 kept-edit k S (moves t m) G u z = kept-moved k S t m G u (other-than u t [] z)
 kept-edit k S (alters t f) G u z = kept-altered k S t (f (threadOf k t)) (G .0) (G .1) u
 kept-edit k S (counts t) G u z = kept-counted k S t G u
-kept-edit k S (ranks d n) G u z = kept-ranked k _ u refl
+kept-edit k S (ranks d n) G u z = kept-same k _ u refl refl
 kept-edit k S (stores d n x) G u z =
     kept-same k _ u (ap (λ (l : List Held). getD l u noHeld) (Objects.stored-held d k n x)) (ap (λ (s : Scheduler). threadAt s u) (Objects.stored-scheduler d k n x))
-kept-edit k S (sets c) G u z = kept-clock k c u
+kept-edit k S (sets c) G u z = kept-same k _ u refl refl
 
 -- ---- edits none of which moves the thread
 none-moved : (u : ℕ) → count u (counted []) ≡ 0

@@ -135,15 +135,11 @@ module _ (p : Place) (waiters : 4 < p .state) where
       (λ d n G u r. same (ranks d n) (line-edit k S (ranks d n) G p ∙ rw (not-true (sameb p (placeOf d n)) r)))
       (λ d n x G u r. same (stores d n x) (line-edit k S (stores d n x) G p)) (λ c G u r. same (sets c) (line-edit k S (sets c) G p)) e
 
-  nobody-left : (k : Kernel) → lineAt (k .scheduler) p ≡ less (movers (leavesb p) []) (lineAt (k .scheduler) p)
-  unfolding gathered
-  nobody-left k = sym (Less.less-none (lineAt (k .scheduler) p))
-
   -- a line of waiters after edits that begin no wait and do not rank it: those who left it for a cause of that place are gone
   pub waiters-after : (k : Kernel) → Steady (k .scheduler) → (es : List Edit) → Fits.RequiresAll k es → allb unstartedb es ≡ true → allb (unrankedb p) es ≡ true
       → lineAt (applied k es .scheduler) p ≡ less (movers (leavesb p) es) (lineAt (k .scheduler) p)
-  unfolding applied
-  waiters-after k S [] G u r = nobody-left k
+  unfolding applied gathered
+  waiters-after k S [] G u r = sym (Less.less-none (lineAt (k .scheduler) p))
   waiters-after k S (e ∷ es) G u r =
       waiters-after (edited k e) (Fits.steady-edit k S e (G .0)) es (G .1) (Edits.all-rest unstartedb e es u) (Edits.all-rest (unrankedb p) e es r)
       ∙ ap (less (movers (leavesb p) es)) (waiters-edit k S e (G .0) (Edits.all-first unstartedb e es u) (Edits.all-first (unrankedb p) e es r))
