@@ -85,7 +85,8 @@ pub data Edit : Type 0 where
   sets : ℕ → Edit
 
 unfoldable pub edited : Kernel → Edit → Kernel
-edited k (moves t m) = withHeld (withScheduler k (joined (k .scheduler) (frontb m) t (recordBy m (threadOf k t)))) t (heldBy m (threadOf k t) (heldAt k t))
+edited k (moves t m) =
+    withHeld (withScheduler k (joined (k .scheduler) (frontb m) t (recordBy m (threadOf k t)))) t (heldBy m (threadOf k t) (heldAt k t))
 edited k (alters t f) = withScheduler k (withThread (k .scheduler) t (f (threadOf k t)))
 edited k (counts t) = withScheduler k (withThread (k .scheduler) t (withTicks (threadOf k t .ticks - 1) (threadOf k t)))
 edited k (ranks d n) = withScheduler k (prioritisedAt (k .scheduler) (placeOf d n))

@@ -27,7 +27,8 @@ does es = gives noWords es
 
 -- the running thread begins to wait or sleep: 0x101
 abbrev pub begins : Kernel → Bool → ℕ → ℕ → ℕ → Held → Effect
-begins k front state object ticks h = record { success = Success.waits; words = noWords; relinquishes = false; edits = moves (runnerOf k) (starts front state object ticks h) ∷ [] }
+begins k front state object ticks h =
+    record { success = Success.waits; words = noWords; relinquishes = false; edits = moves (runnerOf k) (starts front state object ticks h) ∷ [] }
 
 -- the waits of all in a list end for one cause, in the list's order
 unfoldable pub endsEach : Cause → List ℕ → List ℕ → List Edit
@@ -43,12 +44,12 @@ unfoldable pub storeEffect : (d : Kind) → ℕ → Object d → Effect
 storeEffect d n x = does (stores d n x ∷ [])
 
 -- all waits on it end for one cause, in line order, and it gets another record
-unfoldable pub closeEffect : Cause → (d : Kind) → ℕ → Object d → Kernel → Effect
-closeEffect c d n x k = does (endsEach c noWords (lineAt (k .scheduler) (placeOf d n)) ++ (stores d n x ∷ []))
+unfoldable pub closeEffect : Kernel → Cause → (d : Kind) → ℕ → Object d → Effect
+closeEffect k c d n x = does (endsEach c noWords (lineAt (k .scheduler) (placeOf d n)) ++ (stores d n x ∷ []))
 
 -- delete: the waiters get 0x01, the record is zero
 abbrev pub removeEffect : Kernel → Kind → ℕ → Effect
-removeEffect k d n = closeEffect (deleted d n) d n (noObject d) k
+removeEffect k d n = closeEffect k (deleted d n) d n (noObject d)
 
 -- prioritise
 unfoldable pub rankEffect : Kind → ℕ → Effect
@@ -59,12 +60,12 @@ abbrev pub waitedb : Kernel → Kind → ℕ → Bool
 waitedb k d n = ltb (firstAt (k .scheduler) (placeOf d n)) 32
 
 -- the first waiter is served with words
-unfoldable pub serveEffect : Kind → ℕ → Kernel → List ℕ → Effect
-serveEffect d n k words = does (moves (firstAt (k .scheduler) (placeOf d n)) (ends (served d n) words) ∷ [])
+unfoldable pub serveEffect : Kernel → Kind → ℕ → List ℕ → Effect
+serveEffect k d n words = does (moves (firstAt (k .scheduler) (placeOf d n)) (ends (served d n) words) ∷ [])
 
 -- something is given: the first waiter is served with it, and with nobody there the object gets another record
-unfoldable pub giveEffect : (d : Kind) → ℕ → Kernel → List ℕ → Object d → Effect
-giveEffect d n k words x = if waitedb k d n then serveEffect d n k words else storeEffect d n x
+unfoldable pub giveEffect : Kernel → (d : Kind) → ℕ → List ℕ → Object d → Effect
+giveEffect k d n words x = if waitedb k d n then serveEffect k d n words else storeEffect d n x
 
 -- ---- objects from which one is taken at a time
 -- a created semaphore with a count
@@ -85,8 +86,8 @@ oneLess group x = x
 oneLess pool x = withoutNext x
 
 -- one is taken at once, with words, where there is one; else the caller waits
-unfoldable pub takeEffect : (d : Kind) → ℕ → Kernel → List ℕ → ℕ → Effect
-takeEffect d n k words wait =
+unfoldable pub takeEffect : Kernel → (d : Kind) → ℕ → List ℕ → ℕ → Effect
+takeEffect k d n words wait =
     if ltb 0 (amountOf d (objectAt d k n))
     then gives words (stores d n (oneLess d (objectAt d k n)) ∷ [])
     else begins k false (stateOn d) n wait waiting

@@ -29,10 +29,14 @@ clearsBy k n flags = unionOf (λ t. clearOf (heldAt k t .request) (heldAt k t .o
 -- 31 set. OR: the joined flags wake whom they meet, each holds them unreduced, and clears are taken off afterwards. AND: the flags are
 -- intersected and nobody is woken.
 unfoldable pub setOrEffect : Kernel → ℕ → ℕ → Effect
-setOrEffect k n flags = does (endsEach (served group n) (oneWord flags) (wokenBy k n flags) ++ (stores group n (groupWith (lessFlags flags (clearsBy k n flags))) ∷ []))
+setOrEffect k n flags =
+    does (endsEach (served group n) (oneWord flags) (wokenBy k n flags) ++ (stores group n (groupWith (lessFlags flags (clearsBy k n flags))) ∷ []))
 
 unfoldable pub setEffect : Kernel → ℕ → ℕ → ℕ → Effect
-setEffect k n flags option = if eqb option 0 then setOrEffect k n (bitOr (groupAt k n .flags) flags) else storeEffect group n (groupWith (bitAnd (groupAt k n .flags) flags))
+setEffect k n flags option =
+    if eqb option 0
+    then setOrEffect k n (bitOr (groupAt k n .flags) flags)
+    else storeEffect group n (groupWith (bitAnd (groupAt k n .flags) flags))
 
 -- 32 get: word 0 is the flags before any clear; with a request that is not met the caller waits
 unfoldable pub flagsGetEffect : Kernel → ℕ → ℕ → ℕ → ℕ → Effect

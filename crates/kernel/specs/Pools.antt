@@ -10,8 +10,8 @@ use Rattle.kernel.specs.Effects.{giveEffect, takeEffect}
 
 -- 35 allocate: word 0 is the block; with no free block the caller waits
 unfoldable pub allocateEffect : Kernel → ℕ → ℕ → Effect
-allocateEffect k n wait = takeEffect pool n k (oneWord (nextBlock (poolAt k n))) wait
+allocateEffect k n wait = takeEffect k pool n (oneWord (nextBlock (poolAt k n))) wait
 
 -- 36 release: the first waiter gets that very block, else the block is free again
 unfoldable pub releaseEffect : Kernel → ℕ → ℕ → Effect
-releaseEffect k n block = giveEffect pool n k (oneWord block) (withFree (poolAt k n) block)
+releaseEffect k n block = giveEffect k pool n (oneWord block) (withFree (poolAt k n) block)

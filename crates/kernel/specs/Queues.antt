@@ -20,7 +20,7 @@ use Rattle.kernel.specs.Effects.{gives, does, begins, endsEach, closeEff
 unfoldable pub sendEffect : Kernel → ℕ → ℕ → Bool → List ℕ → Effect
 sendEffect k n wait front message =
     if roomb (queueAt k n)
-    then giveEffect queue n k message (withSent (queueAt k n) front message)
+    then giveEffect k queue n message (withSent (queueAt k n) front message)
     else begins k front (stateOn queue) n wait (sending front message)
 
 -- a receive with the sender t first in line: by t's kind its message or the oldest is given, and t is served
@@ -35,8 +35,10 @@ unfoldable pub receiveEffect : Kernel → ℕ → ℕ → Effect
 receiveEffect k n wait =
     if emptyb (queueAt k n)
     then begins k false (stateOn queue) n wait waiting
-    else (if waitedb k queue n then pastEffect k n (firstAt (k .scheduler) (placeOf queue n)) else gives (oldest (queueAt k n)) (stores queue n (withoutOldest (queueAt k n)) ∷ []))
+    else if waitedb k queue n
+    then pastEffect k n (firstAt (k .scheduler) (placeOf queue n))
+    else gives (oldest (queueAt k n)) (stores queue n (withoutOldest (queueAt k n)) ∷ [])
 
 -- 27 flush: an empty queue stays as it is; else the store is emptied and all who wait, on sound tables senders, are served
 unfoldable pub flushEffect : Kernel → ℕ → Effect
-flushEffect k n = if emptyb (queueAt k n) then does [] else closeEffect (served queue n) queue n (flushed (queueAt k n)) k
+flushEffect k n = if emptyb (queueAt k n) then does [] else closeEffect k (served queue n) queue n (flushed (queueAt k n))

@@ -9,8 +9,8 @@ use Rattle.kernel.specs.Effects.{oneMore, counting, giveEffect, takeEffe
 
 -- 18 get: an instance at once, else the caller waits
 unfoldable pub semaphoreGetEffect : Kernel → ℕ → ℕ → Effect
-semaphoreGetEffect k n wait = takeEffect semaphore n k noWords wait
+semaphoreGetEffect k n wait = takeEffect k semaphore n noWords wait
 
 -- 19 put, 20 ceiling put: the first waiter is served, else the count goes up by one
 unfoldable pub putEffect : Kernel → ℕ → Effect
-putEffect k n = giveEffect semaphore n k noWords (counting (oneMore (semaphoreAt k n .count)))
+putEffect k n = giveEffect k semaphore n noWords (counting (oneMore (semaphoreAt k n .count)))

@@ -57,7 +57,8 @@ restEffect t state = does (moves t (turns (atRest state) clears) ∷ [])
 
 -- 8 relinquish: to the end of its order, and another choice follows
 unfoldable pub relinquishEffect : Kernel → Effect
-relinquishEffect k = record { success = Success.done; words = noWords; relinquishes = true; edits = moves (runnerOf k) (turns (λ th. th) keeps) ∷ [] }
+relinquishEffect k =
+    record { success = Success.done; words = noWords; relinquishes = true; edits = moves (runnerOf k) (turns (λ th. th) keeps) ∷ [] }
 
 -- 9 sleep: 0 does nothing
 unfoldable pub sleepEffect : Kernel → ℕ → Effect
@@ -72,7 +73,9 @@ abbrev pub lowered : ℕ → Thread → Thread
 lowered p th = withLevels p (min (th .threshold) p) th
 
 unfoldable pub priorityEffect : Kernel → ℕ → ℕ → Effect
-priorityEffect k t p = gives (oneWord (threadOf k t .priority)) (if readyb (threadOf k t) then moves t (turns (lowered p) keeps) ∷ [] else alters t (lowered p) ∷ [])
+priorityEffect k t p =
+    gives (oneWord (threadOf k t .priority))
+    (if readyb (threadOf k t) then moves t (turns (lowered p) keeps) ∷ [] else alters t (lowered p) ∷ [])
 
 -- 12 preemption change: word 0 is the old threshold
 unfoldable pub preemptionEffect : Kernel → ℕ → ℕ → Effect

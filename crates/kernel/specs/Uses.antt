@@ -79,12 +79,14 @@ pub record Creates (d : Kind) (k : Kernel) (n b c : ℕ) (e : Effect) : Type 0 w
 
 -- a call that takes from it: it is served where there is something, and waits where somebody waits already
 pub record Takes (d : Kind) (k : Kernel) (n : ℕ) (e : Effect) : Type 0 where
-  pub served : countedb d ≡ true → e .success ≡ Success.done → (0 < amountOf d (objectAt d k n)) × (e .edits ≡ stores d n (oneLess d (objectAt d k n)) ∷ [])
+  pub served : countedb d ≡ true → e .success ≡ Success.done
+      → (0 < amountOf d (objectAt d k n)) × (e .edits ≡ stores d n (oneLess d (objectAt d k n)) ∷ [])
   pub waits : rolledb d ≡ true → (t : ℕ) → Taker d k n t → e .success ≡ Success.waits
 
 -- a call that gives to it: the first taker is served, or there is one more
 pub record Gives (d : Kind) (k : Kernel) (n b c : ℕ) (messages : List ℕ) (e : Effect) : Type 0 where
-  pub first : rolledb d ≡ true → (t : ℕ) → Taker d k n t → e ≡ does (moves (firstAt (k .scheduler) (placeOf d n)) (ends (served d n) (givenWords d k n b c messages)) ∷ [])
+  pub first : rolledb d ≡ true → (t : ℕ) → Taker d k n t
+      → e ≡ does (moves (firstAt (k .scheduler) (placeOf d n)) (ends (served d n) (givenWords d k n b c messages)) ∷ [])
   pub stored : countedb d ≡ true → waitedb k d n ≡ false → e ≡ does (stores d n (oneGiven d (objectAt d k n) b) ∷ [])
   pub may : mayGiveb d (objectAt d k n) b ≡ true
 

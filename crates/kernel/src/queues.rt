@@ -45,7 +45,7 @@ fn place(n: QueueId) -> Place
 impl Kernel {
     // The waits of all at queue `n` end with a status, and the queue has another record.
     fn queue_ended(mut self, n: QueueId, q: Queue, status: u32) -> Answer
-        ensures { λ r. ⌜ ((c : Cause) → Holds c status → r ≡ answerOf (carriedOut self (closeEffect c Kind.queue (n .0) q self))) ⌝ }
+        ensures { λ r. ⌜ ((c : Cause) → Holds c status → r ≡ answerOf (carriedOut self (closeEffect self c Kind.queue (n .0) q))) ⌝ }
     {
         let s = self.scheduler;
         let line = s.line_at(place(n));

@@ -88,7 +88,7 @@ module _ (d : Kind) (k : Kernel) (F : Fit k) (i : ℕ) where
 
   -- ---- effects
   -- the first in line is served
-  pub serve-proper : (n a : ℕ) (words : List ℕ) → waitedb k d i ≡ true → mayMoveb n a first (ends (served d i) words) ≡ true → Does.Proper k n a (serveEffect d i k words)
+  pub serve-proper : (n a : ℕ) (words : List ℕ) → waitedb k d i ≡ true → mayMoveb n a first (ends (served d i) words) ≡ true → Does.Proper k n a (serveEffect k d i words)
   unfolding serveEffect
   serve-proper n a words q m = Effects.proper-end k F n a first (served d i) words (first-waits q) m
 
@@ -106,7 +106,7 @@ module _ (d : Kind) (k : Kernel) (F : Fit k) (i : ℕ) where
 
   -- all waits on it end, and it gets another record
   pub close-proper : (n a : ℕ) (c : Cause) (x : Object d) → ((th : Thread) → placedb (placeOf d i) th ≡ true → Fits.Was (ends c noWords) th) → i < sizeOf d → objectFitb d x ≡ true
-      → ((t : ℕ) → mayMoveb n a t (ends c noWords) ≡ true) → mayb n a (stores d i x) ≡ true → Does.Proper k n a (closeEffect c d i x k)
+      → ((t : ℕ) → mayMoveb n a t (ends c noWords) ≡ true) → mayb n a (stores d i x) ≡ true → Does.Proper k n a (closeEffect k c d i x)
   unfolding closeEffect
   close-proper n a c x was small fit m s =
       let once : (u : ℕ) → _ = λ u. Orders.line-once (k .scheduler) (F .steady) u (placeOf d i) in
@@ -122,7 +122,7 @@ module _ (d : Kind) (k : Kernel) (F : Fit k) (i : ℕ) where
 
   -- something is given: the first in line is served, or it is stored
   pub give-proper : (number a : ℕ) (words : List ℕ) (x : Object d) → i < sizeOf d → objectFitb d x ≡ true → mayMoveb number a first (ends (served d i) words) ≡ true → mayb number a (stores d i x) ≡ true
-      → Does.Proper k number a (giveEffect d i k words x)
+      → Does.Proper k number a (giveEffect k d i words x)
   unfolding giveEffect storeEffect
   give-proper number a words x small fit m s =
       by-choice (Does.Proper k number a) (waitedb k d i) _ _
@@ -176,7 +176,7 @@ module _ (k : Kernel) (b c : ℕ) (messages : List ℕ) (caller number n : ℕ) 
       abbrev reason : ℕ
       reason = firstOf (unless (createdb d x) status) (firstOf (unless (eqb wait 0 || eqb caller 2) Statuses.waitError) (unless (ltb 0 wait || ltb 0 (amountOf d x)) none))
 
-      take-proper : Sound k → (eqb caller 2 ≡ true → runnerOf k < 32) → reason ≡ 0 → Does.Proper k number n (takeEffect d n k words wait)
+      take-proper : Sound k → (eqb caller 2 ≡ true → runnerOf k < 32) → reason ≡ 0 → Does.Proper k number n (takeEffect k d n words wait)
       unfolding takeEffect mayMoveb implies
       take-proper S runs z =
           let made = Effects.is-true _ status _ pos z in
@@ -197,7 +197,7 @@ module _ (k : Kernel) (b c : ℕ) (messages : List ℕ) (caller number n : ℕ) 
           Effects.proper-wait k (S .fit) number n S (v .1) d false n wait waiting (v .0) (λ th i e. Held.held-waiting th i (omega (arith, e, low)) (λ y. other .0 (sym e ∙ y)) (λ y. other .1 (sym e ∙ y)))
           (waits-none d counted waiting x ∙ and-in (createdb d x) _ made (eq-eqb (amountOf d x) 0 (omega (arith, l)))) refl)
 
-      takes : Sound k → Takes d k n (takeEffect d n k words wait)
+      takes : Sound k → Takes d k n (takeEffect k d n words wait)
       unfolding takeEffect
       takes S =
           record {
@@ -206,12 +206,12 @@ module _ (k : Kernel) (b c : ℕ) (messages : List ℕ) (caller number n : ℕ) 
                 by-choice (λ (e : Effect). e .success ≡ waits) (ltb 0 (amountOf d x)) _ _ (λ q. absurd (let l = ltb-true 0 (amountOf d x) q in omega (arith, l, nothing))) (λ q. refl));
           }
 
-      pub take-does : (Takes d k n (takeEffect d n k words wait) → Role k number n b c messages (takeEffect d n k words wait)) → Does.Does k caller number n b c messages reason (takeEffect d n k words wait)
+      pub take-does : (Takes d k n (takeEffect k d n words wait) → Role k number n b c messages (takeEffect k d n words wait)) → Does.Does k caller number n b c messages reason (takeEffect k d n words wait)
       take-does role = record { proper = take-proper; role = λ S z. role (takes S) }
 
     -- one is given
     abbrev given : Effect
-    given = giveEffect d n k (givenWords d k n b c messages) (oneGiven d x b)
+    given = giveEffect k d n (givenWords d k n b c messages) (oneGiven d x b)
 
     pub give-does : (reason : ℕ) → (reason ≡ 0 → createdb d x ≡ true) → (Sound k → reason ≡ 0 → (objectFitb d (oneGiven d x b) ≡ true) × (mayGiveb d x b ≡ true)) → ((t : ℕ) → mayMoveb number n t (ends (served d n) (givenWords d k n b c messages)) ≡ true) → mayb number n (stores d n (oneGiven d x b)) ≡ true
         → (Gives d k n b c messages given → Role k number n b c messages given) → Does.Does k caller number n b c messages reason given

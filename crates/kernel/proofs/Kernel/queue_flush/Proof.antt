@@ -43,7 +43,7 @@ returns-3 c =
     sym (c .before .before .before .is-empty .ensures ∙ ap emptyb i) ∙ c .before .before .if2 .left in
     let by = Cause.served Kind.queue (a .n .0) in
     rw (is-carried, t)
-    (c .queue-ended .ensures by (λ th h. refl) ∙ rw (c .before .flushed .ensures) (ap (λ (q : Queue). answerOf (carriedOut (a .self) (closeEffect by Kind.queue (a .n .0) (flushed q) (a .self)))) i))
+    (c .queue-ended .ensures by (λ th h. refl) ∙ rw (c .before .flushed .ensures) (ap (λ (q : Queue). answerOf (carriedOut (a .self) (closeEffect (a .self) by Kind.queue (a .n .0) (flushed q)))) i))
 
 pub queue-flush-spec : {M : Type 1} → statement M
 queue-flush-spec =
