@@ -93,7 +93,7 @@ unfoldable pub rollAfter : Kind → ℕ → Kernel → List Entry → List Reque
 rollAfter d n k r [] = r
 rollAfter d n k r (m ∷ ms) = rollAfter d n (next k m) (rolled d n m (answer k m) r) ms
 
--- "The wait lasts until the thread is strikeOut out."
+-- the wait lasts until the thread is struck off the roll
 unfoldable pub lastsb : ℕ → List Entry → Bool
 lastsb t r = ltb 0 (count t (names r))
 
@@ -115,7 +115,7 @@ NoPrioritiseOrDelete d n k [] = Unit {0}
 NoPrioritiseOrDelete d n k (m ∷ ms) = ((prioritisesOrDeletesb d n m && doneb (answer k m)) ≡ false) × NoPrioritiseOrDelete d n (next k m) ms
 
 -- ---- after each call
--- "the object's line begins with the roll, and nobody whom that call strikeOut out stands in it"
+-- the object's line begins with the roll, and nobody whom the call struck off it stands in the line
 pub record Kept (d : Kind) (n : ℕ) (m : Request) (r : List Entry) (x : Answer) : Type 0 where
   pub begins : Begins (names (rolled d n m x r)) (lineAt (x .kernel .scheduler) (placeOf d n))
   pub gone : (u : ℕ) → 0 < count u (names r) → count u (names (rolled d n m x r)) ≡ 0 → count u (lineAt (x .kernel .scheduler) (placeOf d n)) ≡ 0
