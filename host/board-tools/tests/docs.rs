@@ -124,3 +124,36 @@ fn the_tape_of_refusals_has_every_refusal_of_the_table() {
     });
     assert_eq!(seen, services_rows());
 }
+
+/// Whether a file of definitions has one of this name.
+fn defines(definitions: &str, name: &str) -> bool {
+    definitions.lines().any(|line| {
+        let mut rest = line;
+        for word in ["unfoldable ", "abbrev ", "pub ", "record ", "data "] {
+            rest = rest.strip_prefix(word).unwrap_or(rest);
+        }
+        line.contains("pub ") && rest.split([' ', '(']).next() == Some(name)
+    })
+}
+
+#[test]
+fn every_rule_names_definitions_that_exist() {
+    let doc = repository("docs/RULES.md");
+    let mut rules = 0;
+    for row in doc.lines().filter(|line| line.starts_with("| ")) {
+        let cells: Vec<&str> = row.trim_matches('|').split('|').map(str::trim).collect();
+        if !cells[0].starts_with(|c: char| c.is_ascii_digit()) {
+            continue;
+        }
+        rules += 1;
+        for group in cells[cells.len() - 1].split("; ") {
+            let (file, names) = group.split_once(": ").unwrap_or_else(|| panic!("{row}"));
+            let (crate_name, file) = file.trim_matches('`').split_once('/').unwrap();
+            let definitions = repository(&format!("crates/{crate_name}/specs/{file}.antt"));
+            for name in names.split(", ").map(|name| name.trim_matches('`')) {
+                assert!(defines(&definitions, name), "{name} of {crate_name}/{file}: {row}");
+            }
+        }
+    }
+    assert!(rules > 60, "{rules} rules");
+}
