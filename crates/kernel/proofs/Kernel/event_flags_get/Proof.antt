@@ -49,7 +49,7 @@ returns-2 c =
     let d = c .before .if2 in
     let m : answered (d .self) (d .s) (d .status) (d .words) 0 ≡ answerOf (guarded (a .t1) (getRefusal (groupAt (a .t1) (a .n .0)) (a .request) (a .option) (a .wait) (a .caller)) (flagsGetEffect (a .t1) (a .n .0) (a .request) (a .option) (a .wait))) =
     ⊎-elim
-    (λ w. rw (w .6, w .7, w .8, w .9, is-carried, ← t, w .0 .taken, w .5 .ensures, w .4 .ensures, w .3 .ensures, w .2 .ensures, w .1 .ensures, o, i))
+    (λ w. rw (w .6, w .7, w .8, w .9, is-carried, ← t, w .0 .taken) (rw (w .5 .ensures, w .4 .ensures, w .3 .ensures, w .2 .ensures, w .1 .ensures, o, i)))
     (λ w. ⊎-elim
     (λ v. rw (v .6, v .7, v .8, v .9, is-carried, ← t, v .0 .left, v .3 .ensures, v .5 .ensures, o))
     (λ v.
