@@ -9,4 +9,7 @@ slice-aggregate-write-all : tie.Need-slice-aggregate-write-all
 slice-aggregate-write-all c = let e = c .before .least .ensures in sym (length-take-le (c .before .least .result) (c .before .before .before .args .buf .now) (omega (arith, e)))
 
 pub flush-spec : {M : Type 1} → statement M
-flush-spec = tie.close (tie.spec (search needs) (search needs) slice-aggregate-write-all (search needs) (search needs) (search needs))
+flush-spec =
+    tie.close
+    (tie.spec (λ c κs. search needs) (λ c. search needs) slice-aggregate-write-all (λ c κs. search needs) (λ c. search needs)
+    (λ c. search needs))

@@ -12,4 +12,6 @@ returns c =
     rw (d .1 .1 ∙ digits-all (c .before .before .before .before .before .decimal .result) (c .before .before .before .before .before .before .before .before .args .n) n (d .1 .0)) at (c .before .before .put-text .ensures)
 
 pub put-decimal-spec : {M : Type 1} → statement M
-put-decimal-spec = tie.close (tie.spec (search needs) (search needs) (search needs) (search needs) (search needs) returns)
+put-decimal-spec =
+    tie.close
+    (tie.spec (λ c κs. search needs) (λ c. search needs) (λ c. search needs) (λ c κs. search needs) (λ c. search needs) returns)

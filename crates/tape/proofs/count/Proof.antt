@@ -12,4 +12,4 @@ unfolding countOf
 returns-2 c = rw (← c .before .before .is-refused .ensures, c .before .if1 .left) (c .word .ensures)
 
 pub count-spec : {M : Type 1} → statement M
-count-spec = tie.close (tie.spec (search needs) (search needs) returns returns-2)
+count-spec = tie.close (tie.spec (λ c κs. search needs) (λ c κs. search needs) returns returns-2)

@@ -12,4 +12,4 @@ unfolding messageCountOf
 returns-2 c = rw (← c .before .before .is-refused .ensures, c .before .if1 .left) (c .word .ensures)
 
 pub message-count-spec : {M : Type 1} → statement M
-message-count-spec = tie.close (tie.spec (search needs) (search needs) returns returns-2)
+message-count-spec = tie.close (tie.spec (λ c κs. search needs) (λ c κs. search needs) returns returns-2)

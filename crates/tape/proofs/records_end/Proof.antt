@@ -6,4 +6,4 @@ use Rattle.tape.proofs.records_end.Tie as tie
 
 pub records-end-spec : {M : Type 1} → statement M
 unfolding recordsEnd
-records-end-spec = tie.close (tie.spec (search needs) (search needs) (λ c. refl))
+records-end-spec = tie.close (tie.spec (λ c. search needs) (λ c. search needs) (λ c. refl))

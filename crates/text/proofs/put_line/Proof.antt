@@ -22,5 +22,5 @@ slice-aggregate-put-numbers c =
 pub put-line-spec : {M : Type 1} → statement M
 put-line-spec =
     tie.close
-    (tie.spec (search needs) (search needs) (search needs) (search needs) array-share-prefix-ids slice-aggregate-put-numbers (search needs)
-    (search needs) (search needs) (search needs))
+    (tie.spec (λ c κs. search needs) (λ c. search needs) (λ c. search needs) (λ c κs. search needs) array-share-prefix-ids
+    slice-aggregate-put-numbers (λ c κs. search needs) (λ c κs. search needs) (λ c. search needs) (λ c. search needs))

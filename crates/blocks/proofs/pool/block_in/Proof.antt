@@ -21,4 +21,4 @@ returns-3 c =
     sym (getD-behind (a .front .now) (a .back .now) (a .i) (c .before .if1 .left) ∙ List·getD-eq-default (a .back .now) 0 (c .if2 .left))
 
 pub block-in-spec : {M : Type 1} → statement M
-block-in-spec = tie.close (tie.spec (search needs) (search needs) (search needs) returns returns-2 returns-3)
+block-in-spec = tie.close (tie.spec (λ c. search needs) (λ c. search needs) (λ c. search needs) returns returns-2 returns-3)

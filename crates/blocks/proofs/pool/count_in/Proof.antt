@@ -27,4 +27,4 @@ returns-3 c =
     omega (arith, t, e, c .if1 .left)
 
 pub count-in-spec : {M : Type 1} → statement M
-count-in-spec = tie.close (tie.spec (search needs) (search needs) (search needs) returns returns-2 returns-3)
+count-in-spec = tie.close (tie.spec (λ c. search needs) (λ c. search needs) (λ c. search needs) returns returns-2 returns-3)

@@ -31,4 +31,5 @@ returns c =
 pub packed-spec : {M : Type 1} → statement M
 packed-spec =
     tie.close
-    (tie.spec Inv-loop μ-loop (λ c. (omega arith, pad-none 64)) (search needs) (search needs) (search needs) (search needs) loop-again returns)
+    (tie.spec Inv-loop μ-loop (λ c. (omega arith, pad-none 64)) (λ c κs. search needs) (λ c. search needs) (λ c. search needs)
+    (λ c. search needs) loop-again returns)

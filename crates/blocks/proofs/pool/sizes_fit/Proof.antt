@@ -10,4 +10,4 @@ pub sizes-fit-spec : {M : Type 1} → statement M
 unfolding blockSizesb
 sizes-fit-spec =
     tie.close
-    (tie.spec (search needs) (search needs) (λ c. refl) (λ c. rw (lt-leb (c .before .args .block) 256 (c .if1 .left), and-false)))
+    (tie.spec (λ c. search needs) (λ c. search needs) (λ c. refl) (λ c. rw (lt-leb (c .before .args .block) 256 (c .if1 .left), and-false)))

@@ -44,5 +44,5 @@ returns c =
 pub message-in-spec : {M : Type 1} → statement M
 message-in-spec =
     tie.close
-    (tie.spec Inv-loop μ-loop (λ c. (omega arith, pad-none 16)) (search needs) (search needs) (search needs) shared-slice-read-message (search needs)
-    (search needs) (search needs) (search needs) loop-again returns)
+    (tie.spec Inv-loop μ-loop (λ c. (omega arith, pad-none 16)) (λ c. search needs) (λ c. search needs) (λ c. search needs)
+    shared-slice-read-message (λ c. search needs) (λ c. search needs) (λ c. search needs) (λ c. search needs) loop-again returns)

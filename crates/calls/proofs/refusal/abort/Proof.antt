@@ -5,4 +5,4 @@ use Rattle.calls.proofs.refusal.abort.Tie as tie
 
 pub abort-spec : {M : Type 1} → statement M
 unfolding abortRefusal
-abort-spec = tie.close (tie.spec (search needs) (search needs) (search needs) (search needs) (λ c. cc))
+abort-spec = tie.close (tie.spec (λ c κs. search needs) (λ c κs. search needs) (λ c κs. search needs) (λ c κs. search needs) (λ c. cc))

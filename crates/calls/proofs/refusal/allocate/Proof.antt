@@ -5,4 +5,7 @@ use Rattle.calls.proofs.refusal.allocate.Tie as tie
 
 pub allocate-spec : {M : Type 1} → statement M
 unfolding allocateRefusal
-allocate-spec = tie.close (tie.spec (search needs) (search needs) (search needs) (search needs) (search needs) (search needs) (λ c. cc))
+allocate-spec =
+    tie.close
+    (tie.spec (λ c κs. search needs) (λ c κs. search needs) (λ c κs. search needs) (λ c κs. search needs) (λ c κs. search needs)
+    (λ c κs. search needs) (λ c. cc))

@@ -5,4 +5,7 @@ use Rattle.calls.proofs.refusal.ceiling_put.Tie as tie
 
 pub ceiling-put-spec : {M : Type 1} → statement M
 unfolding ceilingRefusal
-ceiling-put-spec = tie.close (tie.spec (search needs) (search needs) (search needs) (search needs) (search needs) (λ c. cc))
+ceiling-put-spec =
+    tie.close
+    (tie.spec (λ c κs. search needs) (λ c κs. search needs) (λ c κs. search needs) (λ c κs. search needs) (λ c κs. search needs)
+    (λ c. cc))

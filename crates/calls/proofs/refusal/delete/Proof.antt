@@ -5,4 +5,7 @@ use Rattle.calls.proofs.refusal.delete.Tie as tie
 
 pub delete-spec : {M : Type 1} → statement M
 unfolding deleteRefusal
-delete-spec = tie.close (tie.spec (search needs) (search needs) (search needs) (search needs) (search needs) (λ c. cc))
+delete-spec =
+    tie.close
+    (tie.spec (λ c κs. search needs) (λ c κs. search needs) (λ c κs. search needs) (λ c κs. search needs) (λ c κs. search needs)
+    (λ c. cc))

@@ -11,4 +11,7 @@ returns c =
     cc (met-option (a .g .flags) (a .request) (a .option))
 
 pub flags-get-spec : {M : Type 1} → statement M
-flags-get-spec = tie.close (tie.spec (search needs) (search needs) (search needs) (search needs) (search needs) (search needs) (search needs) (search needs) (search needs) returns)
+flags-get-spec =
+    tie.close
+    (tie.spec (λ c κs. search needs) (λ c κs. search needs) (λ c κs. search needs) (λ c κs. search needs) (λ c κs. search needs)
+    (λ c κs. search needs) (λ c κs. search needs) (λ c κs. search needs) (λ c κs. search needs) returns)

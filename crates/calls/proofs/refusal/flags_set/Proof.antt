@@ -5,4 +5,4 @@ use Rattle.calls.proofs.refusal.flags_set.Tie as tie
 
 pub flags-set-spec : {M : Type 1} → statement M
 unfolding setRefusal
-flags-set-spec = tie.close (tie.spec (search needs) (search needs) (search needs) (λ c. cc))
+flags-set-spec = tie.close (tie.spec (λ c κs. search needs) (λ c κs. search needs) (λ c κs. search needs) (λ c. cc))

@@ -5,4 +5,4 @@ use Rattle.calls.proofs.refusal.group_create.Tie as tie
 
 pub group-create-spec : {M : Type 1} → statement M
 unfolding groupCreateRefusal
-group-create-spec = tie.close (tie.spec (search needs) (search needs) (search needs) (λ c. cc))
+group-create-spec = tie.close (tie.spec (λ c κs. search needs) (λ c κs. search needs) (λ c κs. search needs) (λ c. cc))

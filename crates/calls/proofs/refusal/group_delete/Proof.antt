@@ -5,4 +5,4 @@ use Rattle.calls.proofs.refusal.group_delete.Tie as tie
 
 pub group-delete-spec : {M : Type 1} → statement M
 unfolding groupDeleteRefusal
-group-delete-spec = tie.close (tie.spec (search needs) (search needs) (search needs) (λ c. cc))
+group-delete-spec = tie.close (tie.spec (λ c κs. search needs) (λ c κs. search needs) (λ c κs. search needs) (λ c. cc))

@@ -5,4 +5,4 @@ use Rattle.calls.proofs.refusal.pool.Tie as tie
 
 pub pool-spec : {M : Type 1} → statement M
 unfolding poolRefusal
-pool-spec = tie.close (tie.spec (search needs) (λ c. cc))
+pool-spec = tie.close (tie.spec (λ c κs. search needs) (λ c. cc))

@@ -5,4 +5,7 @@ use Rattle.calls.proofs.refusal.pool_create.Tie as tie
 
 pub pool-create-spec : {M : Type 1} → statement M
 unfolding poolCreateRefusal
-pool-create-spec = tie.close (tie.spec (search needs) (search needs) (search needs) (search needs) (search needs) (search needs) (λ c. cc))
+pool-create-spec =
+    tie.close
+    (tie.spec (λ c κs. search needs) (λ c κs. search needs) (λ c κs. search needs) (λ c κs. search needs) (λ c κs. search needs)
+    (λ c κs. search needs) (λ c. cc))

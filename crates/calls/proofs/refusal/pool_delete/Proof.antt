@@ -5,4 +5,4 @@ use Rattle.calls.proofs.refusal.pool_delete.Tie as tie
 
 pub pool-delete-spec : {M : Type 1} → statement M
 unfolding poolDeleteRefusal
-pool-delete-spec = tie.close (tie.spec (search needs) (search needs) (search needs) (λ c. cc))
+pool-delete-spec = tie.close (tie.spec (λ c κs. search needs) (λ c κs. search needs) (λ c κs. search needs) (λ c. cc))

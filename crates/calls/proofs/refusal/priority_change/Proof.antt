@@ -5,4 +5,7 @@ use Rattle.calls.proofs.refusal.priority_change.Tie as tie
 
 pub priority-change-spec : {M : Type 1} → statement M
 unfolding priorityRefusal
-priority-change-spec = tie.close (tie.spec (search needs) (search needs) (search needs) (search needs) (search needs) (λ c. cc))
+priority-change-spec =
+    tie.close
+    (tie.spec (λ c κs. search needs) (λ c κs. search needs) (λ c κs. search needs) (λ c κs. search needs) (λ c κs. search needs)
+    (λ c. cc))

@@ -5,4 +5,4 @@ use Rattle.calls.proofs.refusal.queue.Tie as tie
 
 pub queue-spec : {M : Type 1} → statement M
 unfolding queueRefusal
-queue-spec = tie.close (tie.spec (search needs) (λ c. cc))
+queue-spec = tie.close (tie.spec (λ c κs. search needs) (λ c. cc))

@@ -5,4 +5,7 @@ use Rattle.calls.proofs.refusal.queue_create.Tie as tie
 
 pub queue-create-spec : {M : Type 1} → statement M
 unfolding queueCreateRefusal
-queue-create-spec = tie.close (tie.spec (search needs) (search needs) (search needs) (search needs) (search needs) (search needs) (λ c. cc))
+queue-create-spec =
+    tie.close
+    (tie.spec (λ c κs. search needs) (λ c κs. search needs) (λ c κs. search needs) (λ c κs. search needs) (λ c κs. search needs)
+    (λ c κs. search needs) (λ c. cc))

@@ -5,4 +5,4 @@ use Rattle.calls.proofs.refusal.queue_delete.Tie as tie
 
 pub queue-delete-spec : {M : Type 1} → statement M
 unfolding queueDeleteRefusal
-queue-delete-spec = tie.close (tie.spec (search needs) (search needs) (search needs) (λ c. cc))
+queue-delete-spec = tie.close (tie.spec (λ c κs. search needs) (λ c κs. search needs) (λ c κs. search needs) (λ c. cc))

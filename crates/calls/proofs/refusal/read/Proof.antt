@@ -5,4 +5,4 @@ use Rattle.calls.proofs.refusal.read.Tie as tie
 
 pub read-spec : {M : Type 1} → statement M
 unfolding readRefusal
-read-spec = tie.close (tie.spec (search needs) (λ c. cc))
+read-spec = tie.close (tie.spec (λ c κs. search needs) (λ c. cc))

@@ -5,4 +5,7 @@ use Rattle.calls.proofs.refusal.receive.Tie as tie
 
 pub receive-spec : {M : Type 1} → statement M
 unfolding receiveRefusal
-receive-spec = tie.close (tie.spec (search needs) (search needs) (search needs) (search needs) (search needs) (search needs) (λ c. cc))
+receive-spec =
+    tie.close
+    (tie.spec (λ c κs. search needs) (λ c κs. search needs) (λ c κs. search needs) (λ c κs. search needs) (λ c κs. search needs)
+    (λ c κs. search needs) (λ c. cc))

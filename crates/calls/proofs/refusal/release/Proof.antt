@@ -5,4 +5,4 @@ use Rattle.calls.proofs.refusal.release.Tie as tie
 
 pub release-spec : {M : Type 1} → statement M
 unfolding releaseRefusal
-release-spec = tie.close (tie.spec (search needs) (search needs) (search needs) (search needs) (λ c. cc))
+release-spec = tie.close (tie.spec (λ c κs. search needs) (λ c κs. search needs) (λ c κs. search needs) (λ c κs. search needs) (λ c. cc))

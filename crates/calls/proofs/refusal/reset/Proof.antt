@@ -5,4 +5,7 @@ use Rattle.calls.proofs.refusal.reset.Tie as tie
 
 pub reset-spec : {M : Type 1} → statement M
 unfolding resetRefusal
-reset-spec = tie.close (tie.spec (search needs) (search needs) (search needs) (search needs) (search needs) (λ c. cc))
+reset-spec =
+    tie.close
+    (tie.spec (λ c κs. search needs) (λ c κs. search needs) (λ c κs. search needs) (λ c κs. search needs) (λ c κs. search needs)
+    (λ c. cc))

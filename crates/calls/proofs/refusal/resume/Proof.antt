@@ -5,4 +5,4 @@ use Rattle.calls.proofs.refusal.resume.Tie as tie
 
 pub resume-spec : {M : Type 1} → statement M
 unfolding resumeRefusal
-resume-spec = tie.close (tie.spec (search needs) (search needs) (search needs) (λ c. cc))
+resume-spec = tie.close (tie.spec (λ c κs. search needs) (λ c κs. search needs) (λ c κs. search needs) (λ c. cc))

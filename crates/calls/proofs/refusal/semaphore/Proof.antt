@@ -5,4 +5,4 @@ use Rattle.calls.proofs.refusal.semaphore.Tie as tie
 
 pub semaphore-spec : {M : Type 1} → statement M
 unfolding semaphoreRefusal
-semaphore-spec = tie.close (tie.spec (search needs) (λ c. cc))
+semaphore-spec = tie.close (tie.spec (λ c κs. search needs) (λ c. cc))

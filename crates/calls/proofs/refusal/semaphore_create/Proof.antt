@@ -5,4 +5,4 @@ use Rattle.calls.proofs.refusal.semaphore_create.Tie as tie
 
 pub semaphore-create-spec : {M : Type 1} → statement M
 unfolding semaphoreCreateRefusal
-semaphore-create-spec = tie.close (tie.spec (search needs) (search needs) (search needs) (λ c. cc))
+semaphore-create-spec = tie.close (tie.spec (λ c κs. search needs) (λ c κs. search needs) (λ c κs. search needs) (λ c. cc))

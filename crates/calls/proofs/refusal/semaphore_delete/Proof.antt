@@ -5,4 +5,4 @@ use Rattle.calls.proofs.refusal.semaphore_delete.Tie as tie
 
 pub semaphore-delete-spec : {M : Type 1} → statement M
 unfolding semaphoreDeleteRefusal
-semaphore-delete-spec = tie.close (tie.spec (search needs) (search needs) (search needs) (λ c. cc))
+semaphore-delete-spec = tie.close (tie.spec (λ c κs. search needs) (λ c κs. search needs) (λ c κs. search needs) (λ c. cc))

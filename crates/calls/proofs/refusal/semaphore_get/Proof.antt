@@ -5,4 +5,7 @@ use Rattle.calls.proofs.refusal.semaphore_get.Tie as tie
 
 pub semaphore-get-spec : {M : Type 1} → statement M
 unfolding semaphoreGetRefusal
-semaphore-get-spec = tie.close (tie.spec (search needs) (search needs) (search needs) (search needs) (search needs) (λ c. cc))
+semaphore-get-spec =
+    tie.close
+    (tie.spec (λ c κs. search needs) (λ c κs. search needs) (λ c κs. search needs) (λ c κs. search needs) (λ c κs. search needs)
+    (λ c. cc))

@@ -5,4 +5,4 @@ use Rattle.calls.proofs.refusal.suspend.Tie as tie
 
 pub suspend-spec : {M : Type 1} → statement M
 unfolding suspendRefusal
-suspend-spec = tie.close (tie.spec (search needs) (search needs) (search needs) (λ c. cc))
+suspend-spec = tie.close (tie.spec (λ c κs. search needs) (λ c κs. search needs) (λ c κs. search needs) (λ c. cc))

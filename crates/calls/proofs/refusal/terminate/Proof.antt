@@ -5,4 +5,4 @@ use Rattle.calls.proofs.refusal.terminate.Tie as tie
 
 pub terminate-spec : {M : Type 1} → statement M
 unfolding terminateRefusal
-terminate-spec = tie.close (tie.spec (search needs) (search needs) (search needs) (λ c. cc))
+terminate-spec = tie.close (tie.spec (λ c κs. search needs) (λ c κs. search needs) (λ c κs. search needs) (λ c. cc))

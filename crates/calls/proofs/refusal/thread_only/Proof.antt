@@ -5,4 +5,4 @@ use Rattle.calls.proofs.refusal.thread_only.Tie as tie
 
 pub thread-only-spec : {M : Type 1} → statement M
 unfolding threadOnlyRefusal
-thread-only-spec = tie.close (tie.spec (search needs) (λ c. cc))
+thread-only-spec = tie.close (tie.spec (λ c κs. search needs) (λ c. cc))

@@ -5,4 +5,4 @@ use Rattle.calls.proofs.refusal.tick.Tie as tie
 
 pub tick-spec : {M : Type 1} → statement M
 unfolding tickRefusal
-tick-spec = tie.close (tie.spec (search needs) (λ c. cc))
+tick-spec = tie.close (tie.spec (λ c κs. search needs) (λ c. cc))

@@ -22,4 +22,4 @@ returns-2 c =
 
 pub first-spec : {M : Type 1} → statement M
 unfolding first members
-first-spec = tie.close (tie.spec (search needs) (λ c. search needs) returns-2)
+first-spec = tie.close (tie.spec (λ c. search needs) (λ c. search needs) returns-2)

@@ -14,4 +14,4 @@ unfolding toEnd
 returns-2 c = full (c .before .gathered .result) (without (c .before .before .args .t .0) (members (c .before .before .args .self))) (c .before .before .args .t .0) (c .before .gathered .ensures) (c .if1 .left)
 
 pub joined-end-spec : {M : Type 1} → statement M
-joined-end-spec = tie.close (tie.spec (search needs) (search needs) (search needs) (search needs) returns returns-2)
+joined-end-spec = tie.close (tie.spec (λ c κs. search needs) (λ c. search needs) (λ c. search needs) (λ c. search needs) returns returns-2)

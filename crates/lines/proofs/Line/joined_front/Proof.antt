@@ -5,4 +5,4 @@ use Rattle.lines.proofs.Line.joined_front.Tie as tie
 
 pub joined-front-spec : {M : Type 1} → statement M
 unfolding toFront
-joined-front-spec = tie.close (tie.spec (search needs) (λ c. search needs))
+joined-front-spec = tie.close (tie.spec (λ c κs. search needs) (λ c. search needs))

@@ -5,4 +5,4 @@ use Rattle.lines.proofs.Line.prioritised.Tie as tie
 
 pub prioritised-spec : {M : Type 1} → statement M
 unfolding prioritised
-prioritised-spec = tie.close (tie.spec (search needs) (search needs) (λ c. cc))
+prioritised-spec = tie.close (tie.spec (λ c κs. search needs) (λ c κs. search needs) (λ c. cc))

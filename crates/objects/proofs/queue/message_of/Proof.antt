@@ -30,5 +30,5 @@ returns c =
 pub message-of-spec : {M : Type 1} → statement M
 message-of-spec =
     tie.close
-    (tie.spec Inv-loop μ-loop (λ c. (omega arith, pad-none 16)) (search needs) (search needs) (search needs) (search needs) (search needs) loop-again
-    returns)
+    (tie.spec Inv-loop μ-loop (λ c. (omega arith, pad-none 16)) (λ c κs. search needs) (λ c. search needs) (λ c. search needs)
+    (λ c. search needs) (λ c. search needs) loop-again returns)

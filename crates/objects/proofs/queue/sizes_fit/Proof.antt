@@ -6,4 +6,4 @@ use Rattle.objects.proofs.queue.sizes_fit.Tie as tie
 
 pub sizes-fit-spec : {M : Type 1} → statement M
 unfolding sizesFitb
-sizes-fit-spec = tie.close (tie.spec (search needs) (λ c. cc) (λ c. refl))
+sizes-fit-spec = tie.close (tie.spec (λ c. search needs) (λ c. cc) (λ c. refl))

@@ -16,4 +16,4 @@ returns-2 c =
     c .word-at .ensures ∙ sym (getD-behind (a .front .now) (a .back .now) (a .i) (c .before .if1 .left))
 
 pub word-in-spec : {M : Type 1} → statement M
-word-in-spec = tie.close (tie.spec (search needs) (search needs) (search needs) (search needs) returns returns-2)
+word-in-spec = tie.close (tie.spec (λ c. search needs) (λ c. search needs) (λ c. search needs) (λ c κs. search needs) returns returns-2)

@@ -71,5 +71,6 @@ returns c =
 pub best-spec : {M : Type 1} → statement M
 best-spec =
     tie.close
-    (tie.spec Inv-loop μ-loop (search needs) (search needs) loop-holds (search needs) (search needs) (λ c. search needs) (search needs) (search needs)
-    (search needs) (search needs) (search needs) loop-again (search needs) loop-again-2 returns)
+    (tie.spec Inv-loop μ-loop (λ c κs. search needs) (λ c. search needs) loop-holds (λ c. search needs) (λ c. search needs)
+    (λ c. search needs) (λ c. search needs) (λ c. search needs) (λ c. search needs) (λ c κs. search needs) (λ c. search needs)
+    loop-again (λ c. search needs) loop-again-2 returns)

@@ -6,4 +6,4 @@ use Rattle.scheduler.proofs.Scheduler.best_marked.Tie as tie
 
 pub best-marked-spec : {M : Type 1} → statement M
 unfolding bestMarked markedb wantedb
-best-marked-spec = tie.close (tie.spec (search needs) (search needs))
+best-marked-spec = tie.close (tie.spec (λ c κs. search needs) (λ c. search needs))

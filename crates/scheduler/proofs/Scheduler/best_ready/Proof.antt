@@ -6,4 +6,4 @@ use Rattle.scheduler.proofs.Scheduler.best_ready.Tie as tie
 
 pub best-ready-spec : {M : Type 1} → statement M
 unfolding bestReady readyb wantedb
-best-ready-spec = tie.close (tie.spec (search needs) (search needs))
+best-ready-spec = tie.close (tie.spec (λ c κs. search needs) (λ c. search needs))

@@ -84,5 +84,6 @@ returns-2 c =
 pub first-at-spec : {M : Type 1} → statement M
 first-at-spec =
     tie.close
-    (tie.spec Inv-loop μ-loop (search needs) (search needs) loop-holds (search needs) (λ c. search needs) (search needs) (search needs) (search needs)
-    (search needs) returns (search needs) loop-again (search needs) loop-again-2 returns-2)
+    (tie.spec Inv-loop μ-loop (λ c κs. search needs) (λ c. search needs) loop-holds (λ c. search needs) (λ c. search needs)
+    (λ c. search needs) (λ c. search needs) (λ c. search needs) (λ c κs. search needs) returns (λ c. search needs) loop-again
+    (λ c. search needs) loop-again-2 returns-2)

@@ -7,5 +7,5 @@ pub joined-spec : {M : Type 1} → statement M
 unfolding joined
 joined-spec =
     tie.close
-    (tie.spec (search needs) (search needs) (λ c. rw (c .before .if1 .taken, c .moved-front .ensures))
+    (tie.spec (λ c κs. search needs) (λ c κs. search needs) (λ c. rw (c .before .if1 .taken, c .moved-front .ensures))
     (λ c. rw (c .before .if1 .left, c .moved .ensures)))

@@ -5,4 +5,4 @@ use Rattle.scheduler.proofs.Scheduler.preemption_changed.Tie as tie
 
 pub preemption-changed-spec : {M : Type 1} → statement M
 unfolding preemptionChanged
-preemption-changed-spec = tie.close (tie.spec (search needs) (search needs) (search needs) (λ c. cc))
+preemption-changed-spec = tie.close (tie.spec (λ c κs. search needs) (λ c κs. search needs) (λ c κs. search needs) (λ c. cc))

@@ -17,4 +17,4 @@ returns c =
     rw (c .prioritised .ensures) (λ i. record { running = a .self .running; order = lineOf (prioritised (λ t. k t i) (members (a .self .order))); threads = a .self .threads })
 
 pub prioritised-spec : {M : Type 1} → statement M
-prioritised-spec = tie.close (tie.spec (search needs) (search needs) returns)
+prioritised-spec = tie.close (tie.spec (λ c κs. search needs) (λ c κs. search needs) returns)

@@ -15,4 +15,5 @@ returns-2 c = rw (← c .before .before .before .before .before .thread-at .ensu
 pub priority-changed-spec : {M : Type 1} → statement M
 priority-changed-spec =
     tie.close
-    (tie.spec (search needs) (search needs) (search needs) (search needs) (search needs) returns (search needs) returns-2)
+    (tie.spec (λ c κs. search needs) (λ c κs. search needs) (λ c κs. search needs) (λ c κs. search needs) (λ c κs. search needs) returns
+    (λ c κs. search needs) returns-2)

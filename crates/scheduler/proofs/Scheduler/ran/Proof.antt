@@ -33,4 +33,4 @@ returns c =
     ap (λ (s : Scheduler). withRunner s (a .t .0)) z
 
 pub ran-spec : {M : Type 1} → statement M
-ran-spec = tie.close (tie.spec (search needs) (search needs) (search needs) (search needs) (search needs) returns)
+ran-spec = tie.close (tie.spec (λ c. search needs) (λ c. search needs) (λ c. search needs) (λ c. search needs) (λ c. search needs) returns)

@@ -5,4 +5,4 @@ use Rattle.scheduler.proofs.Scheduler.relinquished.Tie as tie
 
 pub relinquished-spec : {M : Type 1} → statement M
 unfolding relinquished
-relinquished-spec = tie.close (tie.spec (search needs) (search needs) (search needs) (λ c. cc))
+relinquished-spec = tie.close (tie.spec (λ c κs. search needs) (λ c κs. search needs) (λ c κs. search needs) (λ c. cc))

@@ -31,4 +31,6 @@ returns-2 c =
     sym (thread-out (a .t1) (a .t1 .running .0) _ h)
 
 pub replaced-spec : {M : Type 1} → statement M
-replaced-spec = tie.close (tie.spec (search needs) (search needs) (search needs) (search needs) (search needs) returns returns-2)
+replaced-spec =
+    tie.close
+    (tie.spec (λ c. search needs) (λ c. search needs) (λ c. search needs) (λ c. search needs) (λ c. search needs) returns returns-2)

@@ -5,4 +5,4 @@ use Rattle.scheduler.proofs.Scheduler.start.Tie as tie
 
 pub start-spec : {M : Type 1} → statement M
 unfolding started
-start-spec = tie.close (tie.spec (search needs) (search needs) (λ c. cc))
+start-spec = tie.close (tie.spec (λ c κs. search needs) (λ c κs. search needs) (λ c. cc))

@@ -27,4 +27,4 @@ returns-2 c =
     c .none .ensures ∙ sym (List·getD-eq-default (a .t1 .threads) noThread h)
 
 pub thread-at-spec : {M : Type 1} → statement M
-thread-at-spec = tie.close (tie.spec (search needs) (search needs) (search needs) (search needs) returns returns-2)
+thread-at-spec = tie.close (tie.spec (λ c. search needs) (λ c. search needs) (λ c. search needs) (λ c κs. search needs) returns returns-2)

@@ -18,4 +18,4 @@ returns c =
 
 pub with-thread-spec : {M : Type 1} → statement M
 unfolding withThread
-with-thread-spec = tie.close (tie.spec (search needs) returns (search needs) (search needs) (λ c. refl))
+with-thread-spec = tie.close (tie.spec (λ c. search needs) returns (λ c. search needs) (λ c. search needs) (λ c. refl))

@@ -5,4 +5,4 @@ use Rattle.scheduler.proofs.Scheduler.woken.Tie as tie
 
 pub woken-spec : {M : Type 1} → statement M
 unfolding woken
-woken-spec = tie.close (tie.spec (search needs) (search needs) (search needs) (λ c. cc))
+woken-spec = tie.close (tie.spec (λ c κs. search needs) (λ c κs. search needs) (λ c κs. search needs) (λ c. cc))

@@ -12,4 +12,4 @@ unfolding consideredOf
 returns-2 c = rw (← c .before .is-wanted .ensures, c .if1 .left)
 
 pub considered-spec : {M : Type 1} → statement M
-considered-spec = tie.close (tie.spec (search needs) (search needs) returns returns-2)
+considered-spec = tie.close (tie.spec (λ c κs. search needs) (λ c κs. search needs) returns returns-2)

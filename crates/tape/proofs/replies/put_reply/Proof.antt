@@ -65,5 +65,6 @@ returns-2 c =
 pub put-reply-spec : {M : Type 1} → statement M
 put-reply-spec =
     tie.close
-    (tie.spec Inv-loop μ-loop (search needs) (search needs) (search needs) loop-holds (search needs) (search needs) (search needs) (search needs)
-    slice-write-replies (search needs) (search needs) loop-again same-length returns returns-2)
+    (tie.spec Inv-loop μ-loop (λ c κs. search needs) (λ c. search needs) (λ c. search needs) loop-holds (λ c. search needs)
+    (λ c. search needs) (λ c. search needs) (λ c. search needs) slice-write-replies (λ c. search needs) (λ c. search needs) loop-again
+    same-length returns returns-2)

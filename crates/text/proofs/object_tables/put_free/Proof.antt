@@ -19,4 +19,5 @@ slice-aggregate-put-numbers c =
 pub put-free-spec : {M : Type 1} → statement M
 put-free-spec =
     tie.close
-    (tie.spec (search needs) (search needs) array-share-prefix-list slice-aggregate-put-numbers (search needs) (search needs) (search needs))
+    (tie.spec (λ c. search needs) (λ c κs. search needs) array-share-prefix-list slice-aggregate-put-numbers (λ c κs. search needs)
+    (λ c. search needs) (λ c. search needs))

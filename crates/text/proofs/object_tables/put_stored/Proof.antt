@@ -21,5 +21,6 @@ mul-least c =
 pub put-stored-spec : {M : Type 1} → statement M
 put-stored-spec =
     tie.close
-    (tie.spec Inv-loop μ-loop (search needs) (search needs) mul-least (search needs) (λ c. search needs) (search needs) (search needs) (search needs)
-    (search needs) (search needs) (search needs) (search needs) (search needs) (search needs) (search needs) (search needs))
+    (tie.spec Inv-loop μ-loop (λ c. search needs) (λ c. search needs) mul-least (λ c κs. search needs) (λ c. search needs)
+    (λ c κs. search needs) (λ c κs. search needs) (λ c. search needs) (λ c. search needs) (λ c κs. search needs) (λ c κs. search needs)
+    (λ c. search needs) (λ c. search needs) (λ c. search needs) (λ c. search needs) (λ c. search needs))

@@ -5,4 +5,4 @@ use Rattle.waiting.proofs.fit.group_waits.Tie as tie
 
 pub group-waits-spec : {M : Type 1} → statement M
 unfolding groupWaitb
-group-waits-spec = tie.close (tie.spec (search needs) (λ c. cc))
+group-waits-spec = tie.close (tie.spec (λ c κs. search needs) (λ c. cc))

@@ -33,4 +33,7 @@ returns c =
 
 pub is-blank-spec : {M : Type 1} → statement M
 unfolding allBelow
-is-blank-spec = tie.close (tie.spec Inv-loop μ-loop (λ c. search needs) (search needs) (search needs) (search needs) (search needs) loop-again returns)
+is-blank-spec =
+    tie.close
+    (tie.spec Inv-loop μ-loop (λ c. search needs) (λ c. search needs) (λ c. search needs) (λ c. search needs) (λ c. search needs)
+    loop-again returns)

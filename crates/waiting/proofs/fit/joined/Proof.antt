@@ -32,4 +32,7 @@ returns c =
 
 pub joined-spec : {M : Type 1} → statement M
 unfolding allBelow
-joined-spec = tie.close (tie.spec Inv-loop μ-loop (λ c. search needs) (search needs) (search needs) (search needs) (search needs) loop-again returns)
+joined-spec =
+    tie.close
+    (tie.spec Inv-loop μ-loop (λ c. search needs) (λ c. search needs) (λ c. search needs) (λ c. search needs) (λ c. search needs)
+    loop-again returns)

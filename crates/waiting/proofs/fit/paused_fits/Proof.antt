@@ -57,4 +57,7 @@ returns-6 c =
     rw (p, c .before .before .before .before .before .before .before .before .before .before .before .joined2 .ensures) (paused-other (a .h) (a .th) p b e (c .before .before .if4 .left) (c .if5 .left))
 
 pub paused-fits-spec : {M : Type 1} → statement M
-paused-fits-spec = tie.close (tie.spec (search needs) returns (search needs) (search needs) returns-2 returns-3 returns-4 returns-5 returns-6)
+paused-fits-spec =
+    tie.close
+    (tie.spec (λ c κs. search needs) returns (λ c κs. search needs) (λ c κs. search needs) returns-2 returns-3 returns-4 returns-5
+    returns-6)

@@ -12,4 +12,4 @@ unfolding queueWaitb
 returns-2 c = rw (c .before .before .if1 .left, c .before .is-empty .ensures)
 
 pub queue-waits-spec : {M : Type 1} → statement M
-queue-waits-spec = tie.close (tie.spec (search needs) (search needs) returns (search needs) returns-2)
+queue-waits-spec = tie.close (tie.spec (λ c κs. search needs) (λ c κs. search needs) returns (λ c κs. search needs) returns-2)

@@ -23,4 +23,4 @@ returns-4 c =
     λ th made p. sym (resting-clean h (m .result) (m .ensures) th p made (c .before .before .before .if1 .left) (c .before .before .if2 .left) (c .before .if3 .left))
 
 pub resting-fits-spec : {M : Type 1} → statement M
-resting-fits-spec = tie.close (tie.spec (search needs) (search needs) returns returns-2 returns-3 returns-4)
+resting-fits-spec = tie.close (tie.spec (λ c κs. search needs) (λ c. search needs) returns returns-2 returns-3 returns-4)

@@ -26,4 +26,4 @@ returns-3 c =
     λ th u. sym (unheld-clean h (m .result) (m .ensures) (w .result) (w .ensures) th u (c .before .before .if1 .left) (c .before .if2 .left))
 
 pub unheld-fits-spec : {M : Type 1} → statement M
-unheld-fits-spec = tie.close (tie.spec (search needs) (search needs) (search needs) returns returns-2 returns-3)
+unheld-fits-spec = tie.close (tie.spec (λ c κs. search needs) (λ c κs. search needs) (λ c. search needs) returns returns-2 returns-3)

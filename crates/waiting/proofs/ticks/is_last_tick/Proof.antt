@@ -5,4 +5,4 @@ use Rattle.waiting.proofs.ticks.is_last_tick.Tie as tie
 
 pub is-last-tick-spec : {M : Type 1} → statement M
 unfolding lastTickb
-is-last-tick-spec = tie.close (tie.spec (search needs) (λ c. cc))
+is-last-tick-spec = tie.close (tie.spec (λ c κs. search needs) (λ c. cc))

@@ -32,4 +32,4 @@ returns-2 c =
     sym (extent-none (a .self) (a .block) (a .len) (sym (c .before .is-viewed .ensures) ∙ c .if1 .left))
 
 pub block-extent-spec : {M : Type 1} → statement M
-block-extent-spec = tie.close (tie.spec (search needs) (search needs) (search needs) mul-start add-start-2 returns returns-2)
+block-extent-spec = tie.close (tie.spec (λ c. search needs) (λ c κs. search needs) (λ c. search needs) mul-start add-start-2 returns returns-2)

@@ -31,4 +31,4 @@ returns c =
     (extent-viewed (a .self) (a .block) (a .area .now) (e .result) (e .ensures), λ v. ap (λ (x : Extent). (a .area .ptr .0, x .start + a .area .ptr .1)) (e .ensures ∙ extent-shown (a .self) (a .block) (length (a .area .now)) v))
 
 pub block-view-spec : {M : Type 1} → statement M
-block-view-spec = tie.close (tie.spec (search needs) add-end (search needs) (search needs) part-area-end returns)
+block-view-spec = tie.close (tie.spec (λ c κs. search needs) add-end (λ c. search needs) (λ c. search needs) part-area-end returns)

@@ -60,5 +60,5 @@ returns c =
 pub block-write-spec : {M : Type 1} → statement M
 block-write-spec =
     tie.close
-    (tie.spec Inv-loop μ-loop (search needs) (search needs) loop-holds (search needs) (search needs) slice-write-area (search needs) (search needs)
-    loop-again same-length returns)
+    (tie.spec Inv-loop μ-loop (λ c κs. search needs) (λ c κs. search needs) loop-holds (λ c. search needs) (λ c. search needs)
+    slice-write-area (λ c. search needs) (λ c. search needs) loop-again same-length returns)

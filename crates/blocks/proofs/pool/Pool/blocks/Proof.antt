@@ -6,4 +6,4 @@ use Rattle.blocks.proofs.pool.Pool.blocks.Tie as tie
 
 pub blocks-spec : {M : Type 1} → statement M
 unfolding blocksOf
-blocks-spec = tie.close (tie.spec (search needs) (search needs) (search needs) (λ c. refl))
+blocks-spec = tie.close (tie.spec (λ c. search needs) (λ c. search needs) (λ c. search needs) (λ c. refl))

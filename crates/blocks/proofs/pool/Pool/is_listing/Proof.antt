@@ -98,6 +98,6 @@ returns-3 c =
 pub is-listing-spec : {M : Type 1} → statement M
 is-listing-spec =
     tie.close
-    (tie.spec Inv-loop μ-loop (search needs) (search needs) (search needs) loop-holds (search needs) (λ c. search needs) (search needs)
-    (λ c. search needs) returns (search needs) returns-2 (search needs) (search needs) (search needs) (search needs) loop-again (search needs)
-    loop-again-2 returns-3)
+    (tie.spec Inv-loop μ-loop (λ c κs. search needs) (λ c κs. search needs) (λ c. search needs) loop-holds (λ c. search needs)
+    (λ c. search needs) (λ c. search needs) (λ c. search needs) returns (λ c. search needs) returns-2 (λ c. search needs)
+    (λ c. search needs) (λ c. search needs) (λ c. search needs) loop-again (λ c. search needs) loop-again-2 returns-3)

@@ -33,4 +33,4 @@ returns c =
 
 pub is-zero-spec : {M : Type 1} → statement M
 unfolding allBelow
-is-zero-spec = tie.close (tie.spec Inv-loop μ-loop (λ c. search needs) (search needs) (search needs) (search needs) loop-again returns)
+is-zero-spec = tie.close (tie.spec Inv-loop μ-loop (λ c. search needs) (λ c. search needs) (λ c. search needs) (λ c. search needs) loop-again returns)

@@ -5,4 +5,4 @@ use Rattle.blocks.proofs.pool.Pool.listing.Tie as tie
 
 pub listing-spec : {M : Type 1} → statement M
 unfolding listing
-listing-spec = tie.close (tie.spec (search needs) (search needs) (λ c. cc))
+listing-spec = tie.close (tie.spec (λ c κs. search needs) (λ c κs. search needs) (λ c. cc))

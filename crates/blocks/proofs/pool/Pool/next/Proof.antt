@@ -17,4 +17,4 @@ returns-2 c =
 
 pub next-spec : {M : Type 1} → statement M
 unfolding nextBlock freeBlocks
-next-spec = tie.close (tie.spec (search needs) (λ c. search needs) returns-2)
+next-spec = tie.close (tie.spec (λ c. search needs) (λ c. search needs) returns-2)

@@ -30,5 +30,5 @@ returns c =
 pub of-spec : {M : Type 1} → statement M
 of-spec =
     tie.close
-    (tie.spec (search needs) (search needs) (search needs) (search needs) (search needs) slice-aggregate-listing (search needs) (search needs)
-    (search needs) returns)
+    (tie.spec (λ c κs. search needs) (λ c κs. search needs) (λ c κs. search needs) (λ c κs. search needs) (λ c. search needs)
+    slice-aggregate-listing (λ c. search needs) (λ c. search needs) (λ c κs. search needs) returns)

@@ -21,4 +21,5 @@ returns c = rw (c .listing .ensures, listed-free (c .before .before .before .bef
 pub with-free-spec : {M : Type 1} → statement M
 with-free-spec =
     tie.close
-    (tie.spec (search needs) (search needs) (search needs) array-share-prefix-list slice-aggregate-listing-2 (search needs) returns)
+    (tie.spec (λ c κs. search needs) (λ c. search needs) (λ c. search needs) array-share-prefix-list slice-aggregate-listing-2
+    (λ c κs. search needs) returns)

@@ -17,5 +17,5 @@ returns c =
 pub without-next-spec : {M : Type 1} → statement M
 without-next-spec =
     tie.close
-    (tie.spec (search needs) (search needs) (search needs) (search needs) (search needs) part-listing-end (search needs) (search needs) (search needs)
-    returns)
+    (tie.spec (λ c κs. search needs) (λ c. search needs) (λ c κs. search needs) (λ c. search needs) (λ c. search needs) part-listing-end
+    (λ c. search needs) (λ c. search needs) (λ c κs. search needs) returns)

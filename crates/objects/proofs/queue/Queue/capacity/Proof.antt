@@ -7,4 +7,4 @@ use Rattle.objects.proofs.queue.Queue.capacity.Tie as tie
 
 pub capacity-spec : {M : Type 1} → statement M
 unfolding capacityOf
-capacity-spec = tie.close (tie.spec (search needs) (λ c. rw (c .if1 .taken, div-zero)) (λ c. refl))
+capacity-spec = tie.close (tie.spec (λ c. search needs) (λ c. rw (c .if1 .taken, div-zero)) (λ c. refl))

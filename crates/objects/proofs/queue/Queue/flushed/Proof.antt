@@ -6,4 +6,4 @@ use Rattle.objects.proofs.queue.Queue.flushed.Tie as tie
 
 pub flushed-spec : {M : Type 1} → statement M
 unfolding flushed storing pad
-flushed-spec = tie.close (tie.spec (search needs) (λ c. search needs))
+flushed-spec = tie.close (tie.spec (λ c κs. search needs) (λ c. search needs))

@@ -5,4 +5,4 @@ use Rattle.objects.proofs.queue.Queue.given_past.Tie as tie
 
 pub given-past-spec : {M : Type 1} → statement M
 unfolding givenPast
-given-past-spec = tie.close (tie.spec (search needs) (λ c. search needs) (λ c. cc))
+given-past-spec = tie.close (tie.spec (λ c κs. search needs) (λ c. search needs) (λ c. cc))

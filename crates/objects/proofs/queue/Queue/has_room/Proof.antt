@@ -5,4 +5,4 @@ use Rattle.objects.proofs.queue.Queue.has_room.Tie as tie
 
 pub has-room-spec : {M : Type 1} → statement M
 unfolding roomb
-has-room-spec = tie.close (tie.spec (search needs) (λ c. cc))
+has-room-spec = tie.close (tie.spec (λ c κs. search needs) (λ c. cc))

@@ -13,4 +13,4 @@ returns-2 : tie.Need-returns-2
 returns-2 c = rw (c .before .before .before .before .is-clean .ensures) (Queues.zero-store (c .before .before .before .before .before .args .self) ∙ sym (Queues.fit-uncreated (c .before .before .before .before .before .args .self) (c .before .before .before .if1 .left)))
 
 pub is-fit-spec : {M : Type 1} → statement M
-is-fit-spec = tie.close (tie.spec (search needs) (search needs) (search needs) returns returns-2)
+is-fit-spec = tie.close (tie.spec (λ c κs. search needs) (λ c κs. search needs) (λ c κs. search needs) returns returns-2)

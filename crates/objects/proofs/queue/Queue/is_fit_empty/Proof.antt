@@ -38,4 +38,4 @@ returns-4 c =
     rw w (sym (empty-zero q w z (c .before .before .if3 .left)))
 
 pub is-fit-empty-spec : {M : Type 1} → statement M
-is-fit-empty-spec = tie.close (tie.spec (search needs) returns (search needs) returns-2 (search needs) returns-3 returns-4)
+is-fit-empty-spec = tie.close (tie.spec (λ c κs. search needs) returns (λ c κs. search needs) returns-2 (λ c κs. search needs) returns-3 returns-4)

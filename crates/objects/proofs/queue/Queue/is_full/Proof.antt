@@ -5,4 +5,4 @@ use Rattle.objects.proofs.queue.Queue.is_full.Tie as tie
 
 pub is-full-spec : {M : Type 1} → statement M
 unfolding fullb
-is-full-spec = tie.close (tie.spec (search needs) (λ c. cc))
+is-full-spec = tie.close (tie.spec (λ c κs. search needs) (λ c. cc))

@@ -5,4 +5,4 @@ use Rattle.objects.proofs.queue.Queue.of.Tie as tie
 
 pub of-spec : {M : Type 1} → statement M
 unfolding emptyQueue
-of-spec = tie.close (tie.spec (search needs) (search needs) (λ c. cc))
+of-spec = tie.close (tie.spec (λ c κs. search needs) (λ c κs. search needs) (λ c. cc))

@@ -26,4 +26,7 @@ returns c =
     rw (c .message-of .ensures, words-oldest q e _ (c .before .before .before .used .ensures) _ (c .before .before .at-most .ensures))
 
 pub oldest-spec : {M : Type 1} → statement M
-oldest-spec = tie.close (tie.spec (search needs) (search needs) array-share-prefix-store slice-aggregate-message-of (search needs) returns)
+oldest-spec =
+    tie.close
+    (tie.spec (λ c κs. search needs) (λ c κs. search needs) array-share-prefix-store slice-aggregate-message-of (λ c κs. search needs)
+    returns)

@@ -13,4 +13,4 @@ mul-words c =
 
 pub used-spec : {M : Type 1} → statement M
 unfolding usedWords
-used-spec = tie.close (tie.spec (search needs) (search needs) mul-words (search needs) (search needs))
+used-spec = tie.close (tie.spec (λ c. search needs) (λ c. search needs) mul-words (λ c. search needs) (λ c. search needs))

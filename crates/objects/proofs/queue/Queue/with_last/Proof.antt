@@ -48,5 +48,5 @@ returns-2 c = sym (last-full (c .before .before .args .self) (c .before .before 
 pub with-last-spec : {M : Type 1} → statement M
 with-last-spec =
     tie.close
-    (tie.spec (search needs) (search needs) (search needs) array-share-prefix-store slice-aggregate-packed (search needs) slice-aggregate-packed-2
-    (search needs) add-storing (search needs) returns returns-2)
+    (tie.spec (λ c κs. search needs) (λ c κs. search needs) (λ c κs. search needs) array-share-prefix-store slice-aggregate-packed
+    (λ c. search needs) slice-aggregate-packed-2 (λ c κs. search needs) add-storing (λ c κs. search needs) returns returns-2)

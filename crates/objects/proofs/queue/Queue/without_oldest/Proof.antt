@@ -22,5 +22,5 @@ returns c =
 pub without-oldest-spec : {M : Type 1} → statement M
 without-oldest-spec =
     tie.close
-    (tie.spec (search needs) (search needs) (search needs) (search needs) (search needs) part-packed-end (search needs) (search needs) (search needs)
-    (search needs) (search needs) returns)
+    (tie.spec (λ c κs. search needs) (λ c κs. search needs) (λ c. search needs) (λ c. search needs) (λ c. search needs) part-packed-end
+    (λ c. search needs) (λ c. search needs) (λ c κs. search needs) (λ c κs. search needs) (λ c κs. search needs) returns)

@@ -5,4 +5,4 @@ use Rattle.scheduler.proofs.thread.Thread.is_at.Tie as tie
 
 pub is-at-spec : {M : Type 1} → statement M
 unfolding placedb
-is-at-spec = tie.close (tie.spec (search needs) (search needs) (λ c. cc))
+is-at-spec = tie.close (tie.spec (λ c κs. search needs) (λ c κs. search needs) (λ c. cc))

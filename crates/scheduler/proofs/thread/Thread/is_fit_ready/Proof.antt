@@ -7,4 +7,4 @@ returns : tie.Need-returns
 returns c = rw (c .before .before .before .before .before .is-ready .ensures, c .before .before .before .before .is-limited .ensures, ready-fit (c .before .before .before .before .before .before .before .before .args .self))
 
 pub is-fit-ready-spec : {M : Type 1} → statement M
-is-fit-ready-spec = tie.close (tie.spec (search needs) (search needs) returns)
+is-fit-ready-spec = tie.close (tie.spec (λ c κs. search needs) (λ c κs. search needs) returns)

@@ -9,4 +9,4 @@ unfolding restsb
 returns c = rw (c .before .before .before .before .is-limited .ensures) (rests-fit (c .before .before .before .before .before .before .before .before .args .self))
 
 pub is-fit-resting-spec : {M : Type 1} → statement M
-is-fit-resting-spec = tie.close (tie.spec (search needs) returns)
+is-fit-resting-spec = tie.close (tie.spec (λ c κs. search needs) returns)

@@ -6,4 +6,4 @@ use Rattle.scheduler.proofs.thread.Thread.is_wanted.Tie as tie
 
 pub is-wanted-spec : {M : Type 1} → statement M
 unfolding wantedb markedb
-is-wanted-spec = tie.close (tie.spec (search needs) (search needs) (λ c. cc) (λ c. cc))
+is-wanted-spec = tie.close (tie.spec (λ c κs. search needs) (λ c κs. search needs) (λ c. cc) (λ c. cc))

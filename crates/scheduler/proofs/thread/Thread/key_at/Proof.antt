@@ -7,4 +7,4 @@ pub key-at-spec : {M : Type 1} → statement M
 unfolding keyAt
 key-at-spec =
     tie.close
-    (tie.spec (search needs) (λ c. rw (← c .before .is-at .ensures, c .if1 .taken)) (λ c. rw (← c .before .is-at .ensures, c .if1 .left)))
+    (tie.spec (λ c κs. search needs) (λ c. rw (← c .before .is-at .ensures, c .if1 .taken)) (λ c. rw (← c .before .is-at .ensures, c .if1 .left)))
