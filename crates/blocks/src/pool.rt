@@ -4,13 +4,18 @@ ghost use mathlib.Core.List.{_++_};
 ghost use Prim.Native.Nat.{min};
 ghost use lib.ListN.{length, take, getD};
 ghost use lib.Dec.{ltb};
+ghost use Rattle.numbers.specs.Numbers.{slots};
 ghost use Rattle.lines.specs.Lists.{numbersFrom};
 ghost use Rattle.lines.specs.Lines.{pad};
 ghost use Rattle.lines.specs.Slots.{zeroFrom};
 ghost use Rattle.blocks.specs.Pools.{noPool, blocksOf, freeBlocks, blockSizesb, poolLimitsb, listingb, poolZerob, poolFitb, listing, freshPool, usedb, nextBlock, withoutNext, withFree};
+use numbers::NO_BLOCK;
+use numbers::SLOTS;
 
-// The number of a pool, 0 to 3. 4 stands for none.
-pub struct PoolId(pub u8);
+// How many blocks a list has room for, which is the most that a pool may have.
+const ROOM: u8 = SLOTS as u8;
+
+const MOST: u32 = SLOTS as u32;
 
 // The first `free` slots of `list` are the free blocks, in the order in which they are given; the slots behind them are zero.
 pub struct Pool {
@@ -18,7 +23,7 @@ pub struct Pool {
     pub block: u16,
     pub total: u32,
     pub free: u8,
-    pub list: [u8; 64],
+    pub list: [u8; SLOTS],
 }
 
 impl Pool {
@@ -31,7 +36,7 @@ impl Pool {
             block: 0,
             total: 0,
             free: 0,
-            list: [0; 64],
+            list: [0; SLOTS],
         }
     }
 
@@ -46,7 +51,7 @@ impl Pool {
     fn listed(self) -> u8
         ensures { λ r. ⌜ r ≡ length (freeBlocks self) ⌝ }
     {
-        if 64 <= self.free { 64 } else { self.free }
+        if ROOM <= self.free { ROOM } else { self.free }
     }
 
     // Whether the block size and the number of blocks are within bounds.
@@ -63,7 +68,7 @@ impl Pool {
         let list = self.list;
         let blocks = self.blocks();
         let n = self.listed() as usize;
-        let mut counts: [u8; 64] = [0; 64];
+        let mut counts: [u8; SLOTS] = [0; SLOTS];
         let mut i: usize = 0;
         while i < n {
             let x = list[i];
@@ -72,7 +77,7 @@ impl Pool {
             if blocks <= x as u32 {
                 return false;
             }
-            if k < 64 {
+            if k < SLOTS {
                 if counts[k] != 0 {
                     return false;
                 }
@@ -90,7 +95,7 @@ impl Pool {
         let n = self.listed() as usize;
         let mut any: u8 = 0;
         let mut i = n;
-        while i < 64 {
+        while i < SLOTS {
             any = any | list[i];
             i += 1;
         }
@@ -117,7 +122,7 @@ impl Pool {
         let list = self.list;
         let mut any: u8 = 0;
         let mut i: usize = 0;
-        while i < 64 {
+        while i < SLOTS {
             any = any | list[i];
             i += 1;
         }
@@ -147,9 +152,9 @@ impl Pool {
             block: half_of(block),
             total,
             free: 0,
-            list: [0; 64],
+            list: [0; SLOTS],
         };
-        let n = at_most(pool.blocks(), 64);
+        let n = at_most(pool.blocks(), SLOTS);
         let none: [u8; 1] = [0; 1];
         pool.listing(&numbers[..n], &none[..0])
     }
@@ -180,7 +185,11 @@ impl Pool {
     pub fn next(self) -> u8
         ensures { λ r. ⌜ r ≡ nextBlock self ⌝ }
     {
-        if self.free == 0 { 64 } else { self.list[0] }
+        if self.free == 0 {
+            NO_BLOCK
+        } else {
+            self.list[0]
+        }
     }
 
     // The pool whose next block is given.
@@ -211,7 +220,7 @@ pub fn sizes_fit(block: u32, total: u32) -> bool
 {
     if block <= 256 {
         let blocks = total / (block + 4);
-        (block % 4 == 0) & (4 <= block) & (block <= 256) & (1 <= blocks) & (blocks <= 64)
+        (block % 4 == 0) & (4 <= block) & (block <= 256) & (1 <= blocks) & (blocks <= MOST)
     } else {
         false
     }
@@ -233,12 +242,12 @@ fn at_most(blocks: u32, most: usize) -> usize
 }
 
 // The numbers of 64 blocks, in ascending order.
-fn ascending() -> [u8; 64]
-    ensures { λ r. ⌜ r ≡ numbersFrom 0 64 ⌝ }
+fn ascending() -> [u8; SLOTS]
+    ensures { λ r. ⌜ r ≡ numbersFrom 0 slots ⌝ }
 {
-    let mut list: [u8; 64] = [0; 64];
+    let mut list: [u8; SLOTS] = [0; SLOTS];
     let mut i: u8 = 0;
-    while i < 64 {
+    while i < ROOM {
         list[i as usize] = i;
         i += 1;
     }
@@ -247,17 +256,17 @@ fn ascending() -> [u8; 64]
 
 // How many blocks two parts have, 64 at the most.
 fn count_in(front: &[u8], back: &[u8]) -> u8
-    ensures { λ r. ⌜ r ≡ length (take 64 (now (front .entry) ++ now (back .entry))) ⌝ }
+    ensures { λ r. ⌜ r ≡ length (take slots (now (front .entry) ++ now (back .entry))) ⌝ }
 {
-    if front.len() < 64 {
-        let room = 64 - front.len();
+    if front.len() < SLOTS {
+        let room = SLOTS - front.len();
         if back.len() < room {
             (front.len() + back.len()) as u8
         } else {
-            64
+            ROOM
         }
     } else {
-        64
+        ROOM
     }
 }
 
@@ -274,12 +283,12 @@ fn block_in(front: &[u8], back: &[u8], i: usize) -> u8
 }
 
 // A list of two parts one behind the other, zero behind them.
-fn packed(front: &[u8], back: &[u8]) -> [u8; 64]
-    ensures { λ r. ⌜ r ≡ pad 64 (now (front .entry) ++ now (back .entry)) ⌝ }
+fn packed(front: &[u8], back: &[u8]) -> [u8; SLOTS]
+    ensures { λ r. ⌜ r ≡ pad slots (now (front .entry) ++ now (back .entry)) ⌝ }
 {
-    let mut list: [u8; 64] = [0; 64];
+    let mut list: [u8; SLOTS] = [0; SLOTS];
     let mut i: usize = 0;
-    while i < 64 {
+    while i < SLOTS {
         list[i] = block_in(front, back, i);
         i += 1;
     }

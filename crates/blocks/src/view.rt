@@ -38,7 +38,7 @@ impl Pool {
         }
     }
 
-    // What 01 calls a shower of blocks: block `block` as a part of the lent area, of length 0 where it is not shown.
+    // Rule 10.5: block `block` as a part of the lent area, of length 0 where it is not shown.
     // Left free is where in the area a part of length 0 lies.
     pub fn block_view<'a>(self, block: u32, area: &'a mut [u8]) -> &'a mut [u8]
         ensures shows { λ r. ⌜ now r ≡ viewed self block (now (area .entry)) ⌝ }

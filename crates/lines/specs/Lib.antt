@@ -2,3 +2,4 @@ pub mod Logic
 pub mod Lists
 pub mod Lines
 pub mod Slots
+pub mod Loops

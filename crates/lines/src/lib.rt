@@ -1,27 +1,32 @@
-// Thread numbers, and ordered lines of them.
+// Ordered lines of thread numbers.
 ghost use mathlib.Core.Path.{_≡_};
 ghost use mathlib.Core.List.{[], _++_};
 ghost use lib.ListN.{length};
 ghost use Rattle.lines.specs.Logic.{if_then_else_};
-ghost use Rattle.lines.specs.Lists.{without, onlyIf, toEnd, toFront, count, first, bestOf, prioritised};
-ghost use Rattle.lines.specs.Lines.{members, lineOf, cleanb, keyIn, slotOf, tally, betterOf};
+ghost use Rattle.lines.specs.Lists.{without, onlyIf, toEnd, toFront, count, first, fronted};
+ghost use Rattle.lines.specs.Lines.{members, lineOf, cleanb};
+ghost use Rattle.lines.specs.Loops.{slotOf, tally, betterOf};
+use numbers::NOBODY;
+use numbers::THREADS;
+use numbers::ThreadId;
 
-// The number of a thread, 0 to 31. 32 stands for nobody.
-pub struct ThreadId(pub u8);
-
-pub const NOBODY: u8 = 32;
+// How many a line has room for.
+const CAPACITY: u8 = THREADS as u8;
 
 // An ordered line of thread numbers: the first `len` slots, in order. The slots behind them are zero.
 pub struct Line {
-    pub ids: [u8; 32],
+    pub ids: [u8; THREADS],
     pub len: u8,
 }
 
 // A thread and the key by which it is compared: the smaller is the better.
 pub struct Best {
-    pub id: u8,
+    pub id: ThreadId,
     pub key: u8,
 }
+
+// The largest key. It stands beside nobody, whose place a thread of any key takes.
+pub const LARGEST_KEY: u8 = 255;
 
 impl Line {
     // The line in which nobody stands.
@@ -29,7 +34,7 @@ impl Line {
         ensures { λ r. ⌜ r ≡ lineOf [] ⌝ }
     {
         Line {
-            ids: [0; 32],
+            ids: [0; THREADS],
             len: 0,
         }
     }
@@ -38,7 +43,11 @@ impl Line {
     pub fn size(self) -> u8
         ensures { λ r. ⌜ r ≡ length (members self) ⌝ }
     {
-        if 32 <= self.len { 32 } else { self.len }
+        if CAPACITY <= self.len {
+            CAPACITY
+        } else {
+            self.len
+        }
     }
 
     // Who stands first.
@@ -76,7 +85,7 @@ impl Line {
     {
         let n = self.size() as usize;
         let ids = self.ids;
-        let mut out: [u8; 32] = [0; 32];
+        let mut out: [u8; THREADS] = [0; THREADS];
         out[0] = value_if(lead, t.0);
         let mut len = value_if(lead, 1);
         let mut i: usize = 0;
@@ -85,7 +94,7 @@ impl Line {
             i += 1;
             if x != t.0 {
                 let k = len as usize;
-                if k < 32 {
+                if k < THREADS {
                     out[k] = x;
                     len += 1;
                 }
@@ -114,51 +123,30 @@ impl Line {
     {
         let mut l = self.gathered(false, t);
         let n = l.len as usize;
-        if n < 32 {
+        if n < THREADS {
             l.ids[n] = t.0;
             l.len += 1;
         }
         l
     }
 
-    // The first of the best key among those whose key is at most 32.
-    pub fn best(self, keys: [u8; 32]) -> ThreadId
-        ensures { λ r. ⌜ r .0 ≡ bestOf (keyIn keys) (members self) ⌝ }
+    // The line with `t` moved to its front, where it is somebody, and nothing else.
+    pub fn fronted(self, t: ThreadId) -> Line
+        ensures { λ r. ⌜ r ≡ lineOf (fronted (t .0) (members self)) ⌝ }
     {
-        let ids = self.ids;
-        let mut i = self.size() as usize;
-        let mut b = Best {
-            id: NOBODY,
-            key: 32,
-        };
-        while 0 < i {
-            i -= 1;
-            let t = ids[i] as usize;
-            if t < 32 {
-                b = better(ids[i], keys[t], b);
-            }
-        }
-        ThreadId(b.id)
-    }
-
-    // The first of the best key moved to the front, and nothing else.
-    pub fn prioritised(self, keys: [u8; 32]) -> Line
-        ensures { λ r. ⌜ r ≡ lineOf (prioritised (keyIn keys) (members self)) ⌝ }
-    {
-        let b = self.best(keys);
-        self.gathered(b.0 < NOBODY, b)
+        self.gathered(t.0 < NOBODY, t)
     }
 
     // How often each number stands in the line: slot 32 has all that are 32 or more.
-    pub fn tally(self) -> [u8; 33]
+    pub fn tally(self) -> [u8; THREADS + 1]
         ensures { λ r. ⌜ r ≡ tally (members self) ⌝ }
     {
         let ids = self.ids;
         let mut i = self.size() as usize;
-        let mut counts: [u8; 33] = [0; 33];
+        let mut counts: [u8; THREADS + 1] = [0; THREADS + 1];
         while 0 < i {
             i -= 1;
-            let k = slot(ids[i]);
+            let k = slot(ThreadId(ids[i]));
             counts[k] = counts[k] + 1;
         }
         counts
@@ -172,25 +160,25 @@ impl Line {
         let n = self.size() as usize;
         let mut any: u8 = 0;
         let mut i = n;
-        while i < 32 {
+        while i < THREADS {
             any = any | ids[i];
             i += 1;
         }
-        (self.len <= 32) & (any == 0)
+        (self.len <= CAPACITY) & (any == 0)
     }
 }
 
 // Of `x` with key `k` and the best of those behind it the better, `x` where the keys are equal.
-pub fn better(x: u8, k: u8, b: Best) -> Best
-    ensures { λ r. ⌜ r ≡ betterOf x k b ⌝ }
+pub fn better(x: ThreadId, k: u8, b: Best) -> Best
+    ensures { λ r. ⌜ r ≡ betterOf (x .0) k b ⌝ }
 {
     if b.key < k { b } else { Best { id: x, key: k } }
 }
 
-fn slot(x: u8) -> usize
-    ensures { λ r. ⌜ r ≡ slotOf x ⌝ }
+fn slot(t: ThreadId) -> usize
+    ensures { λ r. ⌜ r ≡ slotOf (t .0) ⌝ }
 {
-    if x < NOBODY { x as usize } else { 32 }
+    if t.0 < NOBODY { t.0 as usize } else { THREADS }
 }
 
 fn value_if(b: bool, x: u8) -> u8

@@ -1,6 +1,7 @@
 // Moves and choices, step by step: after each, who runs and who stands, each as number/priority with * for a mark,
 // w for a waiter, in the order of joining; at the end the verdicts of the soundness test on damaged tables.
-use lines::ThreadId;
+use numbers::SemaphoreId;
+use numbers::ThreadId;
 use scheduler::Scheduler;
 use scheduler::thread::Place;
 use scheduler::thread::Thread;
@@ -72,9 +73,9 @@ fn show(what: &[u8], s: Scheduler) -> Scheduler {
     let n = o.size() as usize;
     let mut i: usize = 0;
     while i < n {
-        let t = ids[i];
-        let th = s.thread_at(ThreadId(t));
-        print_thread(t, th);
+        let t = ThreadId(ids[i]);
+        let th = s.thread_at(t);
+        print_thread(t.0, th);
         i += 1;
     }
     print(b"\n");
@@ -113,10 +114,7 @@ fn waiters(s: Scheduler) -> Scheduler {
     let a = step(b"3 waits", s, 3, waiting(20, 9));
     let b = step(b"4 waits", a, 4, waiting(5, 9));
     let c = step(b"5 waits", b, 5, waiting(5, 9));
-    let place = Place {
-        state: 6,
-        number: 3,
-    };
+    let place = Place::semaphore(SemaphoreId(3));
     let d = show(b"prioritise", c.prioritised(place));
     let f = d.first_at(place);
     let e = step(b"the first is served", d, f.0, ready(5, 5));

@@ -6,42 +6,42 @@ use lib.Dec.{eqb, ltb}
 use Rattle.lines.specs.Logic.{if_then_else_}
 use Rattle.objects.specs.declared.group.Group.{Group}
 
--- not created: all zero
+-- rule 12.7: the record of a group that is not created is zero
 unfoldable pub noGroup : Group
 noGroup = record { created = false; flags = 0 }
 
--- a created group with these flags
+-- rule 9.5: a created group with these flags; a new one has none
 unfoldable pub groupWith : ℕ → Group
 groupWith flags = record { created = true; flags = flags }
 
--- an uncreated record is zero
+-- rule 12.7: a record that is not created is zero
 abbrev pub groupFitb : Group → Bool
 groupFitb g = g .created || eqb (g .flags) 0
 
--- options 0 OR, 1 OR and clear, 2 AND, 3 AND and clear
+-- rule 9.1: with options 0 and 1 some of the flags are enough, options 2 and 3 ask for all
 unfoldable pub orOptionb : ℕ → Bool
 orOptionb option = ltb option 2
 
--- OR: some requested flag is set
+-- rule 9.1: some requested flag is set
 unfoldable pub someSetb : ℕ → ℕ → Bool
 someSetb flags request = not (eqb (bitAnd flags request) 0)
 
--- AND: every requested flag is set
+-- rule 9.1: every requested flag is set
 unfoldable pub allSetb : ℕ → ℕ → Bool
 allSetb flags request = eqb (bitAnd flags request) request
 
--- the flags meet a request under an option; a request of 0 is never met
+-- rule 9.1: the flags meet a request under an option; a request for no flag is never met
 unfoldable pub metb : ℕ → ℕ → ℕ → Bool
 metb flags request option = not (eqb request 0) && (if orOptionb option then someSetb flags request else allSetb flags request)
 
--- options 1 and 3 clear
+-- rule 9.1: options 1 and 3 clear
 unfoldable pub clearsb : ℕ → Bool
 clearsb option = eqb option 1 || eqb option 3
 
--- the flags that a request takes off once it is met: its own, or none
+-- rule 9.2: the flags that a request takes off once it is met: its own where its option clears, else none
 unfoldable pub clearOf : ℕ → ℕ → ℕ
 clearOf request option = if clearsb option then request else 0
 
--- flags without some others
+-- rule 9.2: flags without some others
 unfoldable pub lessFlags : ℕ → ℕ → ℕ
 lessFlags flags others = bitAnd flags (bitXor 0xFFFFFFFF others)

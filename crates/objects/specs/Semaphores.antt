@@ -3,10 +3,10 @@ use mathlib.Core.Bool.{Bool, false, _||_}
 use lib.Dec.{eqb}
 use Rattle.objects.specs.declared.semaphore.Semaphore.{Semaphore}
 
--- not created: all zero
+-- rule 12.7: the record of a semaphore that is not created is zero
 unfoldable pub noSemaphore : Semaphore
 noSemaphore = record { created = false; count = 0 }
 
--- an uncreated record is zero
+-- rule 12.7: a record that is not created is zero
 abbrev pub semaphoreFitb : Semaphore → Bool
 semaphoreFitb s = s .created || eqb (s .count) 0

@@ -2,9 +2,6 @@
 ghost use mathlib.Core.Path.{_≡_};
 ghost use Rattle.objects.specs.Groups.{noGroup, groupWith, groupFitb, metb, clearOf, lessFlags};
 
-// The number of a group, 0 to 7. 8 stands for none.
-pub struct GroupId(pub u8);
-
 // The options of a request are 0 OR, 1 OR and clear, 2 AND, 3 AND and clear: from this one on all its flags are asked for.
 pub const AND: u8 = 2;
 

@@ -5,11 +5,16 @@ ghost use mathlib.Core.List.{_++_};
 ghost use mathlib.Core.Bool.{_&&_};
 ghost use Prim.Native.Nat.{_-_, min};
 ghost use lib.ListN.{getD};
+ghost use Rattle.numbers.specs.Numbers.{messageWords, slots};
 ghost use Rattle.lines.specs.Lines.{pad};
 ghost use Rattle.objects.specs.Queues.{noQueue, capacityOf, emptyb, fullb, roomb, usedWords, sizesFitb, queueLimitsb, queueFitb, emptyQueue, oldest, withoutOldest, withLast, withFirst, withSent, givenPast, leftPast, flushed};
+use numbers::MESSAGE_WORDS;
+use numbers::SLOTS;
 
-// The number of a queue, 0 to 7. 8 stands for none.
-pub struct QueueId(pub u8);
+// The longest message and the largest store, in words.
+const LONGEST: u32 = MESSAGE_WORDS as u32;
+
+const LARGEST: u32 = SLOTS as u32;
 
 // `stored` counts messages; the words of the store behind them are zero.
 pub struct Queue {
@@ -17,7 +22,7 @@ pub struct Queue {
     pub words: u8,
     pub storage: u8,
     pub stored: u8,
-    pub store: [u32; 64],
+    pub store: [u32; SLOTS],
 }
 
 impl Queue {
@@ -30,7 +35,7 @@ impl Queue {
             words: 0,
             storage: 0,
             stored: 0,
-            store: [0; 64],
+            store: [0; SLOTS],
         }
     }
 
@@ -81,7 +86,7 @@ impl Queue {
         let n = self.used();
         let mut any: u32 = 0;
         let mut i = n;
-        while i < 64 {
+        while i < SLOTS {
             any = any | store[i];
             i += 1;
         }
@@ -108,7 +113,7 @@ impl Queue {
         let store = self.store;
         let mut any: u32 = 0;
         let mut i: usize = 0;
-        while i < 64 {
+        while i < SLOTS {
             any = any | store[i];
             i += 1;
         }
@@ -141,20 +146,20 @@ impl Queue {
             words: byte_of(words),
             storage: byte_of(storage),
             stored: 0,
-            store: [0; 64],
+            store: [0; SLOTS],
         }
     }
 
     // How many words of the store the messages take, 64 at the most.
     fn used(self) -> usize
-        ensures { λ r. ⌜ r ≡ min (usedWords self) 64 ⌝ }
+        ensures { λ r. ⌜ r ≡ min (usedWords self) slots ⌝ }
     {
         let words = (self.stored as usize) * (self.words as usize);
-        if words < 64 { words } else { 64 }
+        if words < SLOTS { words } else { SLOTS }
     }
 
     // The queue with so many messages, in this store.
-    fn storing(self, stored: u8, store: [u32; 64]) -> Queue
+    fn storing(self, stored: u8, store: [u32; SLOTS]) -> Queue
         ensures { λ r. ⌜ r ≡ record { created = self .created; words = self .words; storage = self .storage; stored = stored; store = store } ⌝ }
     {
         Queue {
@@ -167,7 +172,7 @@ impl Queue {
     }
 
     // The oldest message, as sixteen words.
-    pub fn oldest(self) -> [u32; 16]
+    pub fn oldest(self) -> [u32; MESSAGE_WORDS]
         ensures { λ r. ⌜ r ≡ oldest self ⌝ }
     {
         let store = self.store;
@@ -189,13 +194,13 @@ impl Queue {
     }
 
     // The queue with a message behind the others, where there is room.
-    pub fn with_last(self, message: [u32; 16]) -> Queue
+    pub fn with_last(self, message: [u32; MESSAGE_WORDS]) -> Queue
         ensures { λ r. ⌜ r ≡ withLast self message ⌝ }
     {
         if self.has_room() {
             let store = self.store;
             let used = self.used();
-            let size = at_most(self.words, 16);
+            let size = at_most(self.words, MESSAGE_WORDS);
             let all = packed(&store[..used], &message[..size]);
             self.storing(self.stored + 1, all)
         } else {
@@ -204,13 +209,13 @@ impl Queue {
     }
 
     // The queue with a message before the others, where there is room.
-    pub fn with_first(self, message: [u32; 16]) -> Queue
+    pub fn with_first(self, message: [u32; MESSAGE_WORDS]) -> Queue
         ensures { λ r. ⌜ r ≡ withFirst self message ⌝ }
     {
         if self.has_room() {
             let store = self.store;
             let used = self.used();
-            let size = at_most(self.words, 16);
+            let size = at_most(self.words, MESSAGE_WORDS);
             let all = packed(&message[..size], &store[..used]);
             self.storing(self.stored + 1, all)
         } else {
@@ -219,7 +224,7 @@ impl Queue {
     }
 
     // The queue with a sent message: a front send's before the others, an ordinary one's behind them.
-    pub fn with_sent(self, front: bool, message: [u32; 16]) -> Queue
+    pub fn with_sent(self, front: bool, message: [u32; MESSAGE_WORDS]) -> Queue
         ensures { λ r. ⌜ r ≡ withSent self front message ⌝ }
     {
         if front {
@@ -230,14 +235,14 @@ impl Queue {
     }
 
     // What a receive gives while a sender with this message is first in line: a front sender's message goes past the store.
-    pub fn given_past(self, front: bool, message: [u32; 16]) -> [u32; 16]
+    pub fn given_past(self, front: bool, message: [u32; MESSAGE_WORDS]) -> [u32; MESSAGE_WORDS]
         ensures { λ r. ⌜ r ≡ givenPast self front message ⌝ }
     {
         if front { message } else { self.oldest() }
     }
 
     // The queue that such a receive leaves: an ordinary sender's message is stored behind the others.
-    pub fn left_past(self, front: bool, message: [u32; 16]) -> Queue
+    pub fn left_past(self, front: bool, message: [u32; MESSAGE_WORDS]) -> Queue
         ensures { λ r. ⌜ r ≡ leftPast self front message ⌝ }
     {
         if front {
@@ -251,7 +256,7 @@ impl Queue {
     pub fn flushed(self) -> Queue
         ensures { λ r. ⌜ r ≡ flushed self ⌝ }
     {
-        let store: [u32; 64] = [0; 64];
+        let store: [u32; SLOTS] = [0; SLOTS];
         self.storing(0, store)
     }
 }
@@ -263,7 +268,11 @@ pub fn sizes_fit(words: u32, storage: u32) -> bool
     if words == 0 {
         false
     } else {
-        (1 <= words) & (words <= 16) & (1 <= storage) & (storage <= 64) & (1 <= storage / words)
+        (1 <= words)
+            & (words <= LONGEST)
+            & (1 <= storage)
+            & (storage <= LARGEST)
+            & (1 <= storage / words)
     }
 }
 
@@ -308,12 +317,12 @@ fn word_in(front: &[u32], back: &[u32], i: usize) -> u32
 }
 
 // A store of two parts one behind the other, zero behind them.
-fn packed(front: &[u32], back: &[u32]) -> [u32; 64]
-    ensures { λ r. ⌜ r ≡ pad 64 (now (front .entry) ++ now (back .entry)) ⌝ }
+fn packed(front: &[u32], back: &[u32]) -> [u32; SLOTS]
+    ensures { λ r. ⌜ r ≡ pad slots (now (front .entry) ++ now (back .entry)) ⌝ }
 {
-    let mut store: [u32; 64] = [0; 64];
+    let mut store: [u32; SLOTS] = [0; SLOTS];
     let mut i: usize = 0;
-    while i < 64 {
+    while i < SLOTS {
         store[i] = word_in(front, back, i);
         i += 1;
     }
@@ -321,12 +330,12 @@ fn packed(front: &[u32], back: &[u32]) -> [u32; 64]
 }
 
 // A message of these words, zero behind them.
-fn message_of(words: &[u32]) -> [u32; 16]
-    ensures { λ r. ⌜ r ≡ pad 16 (now (words .entry)) ⌝ }
+fn message_of(words: &[u32]) -> [u32; MESSAGE_WORDS]
+    ensures { λ r. ⌜ r ≡ pad messageWords (now (words .entry)) ⌝ }
 {
-    let mut message: [u32; 16] = [0; 16];
+    let mut message: [u32; MESSAGE_WORDS] = [0; MESSAGE_WORDS];
     let mut i: usize = 0;
-    while i < 16 {
+    while i < MESSAGE_WORDS {
         message[i] = word_at(words, i);
         i += 1;
     }

@@ -2,9 +2,6 @@
 ghost use mathlib.Core.Path.{_≡_};
 ghost use Rattle.objects.specs.Semaphores.{noSemaphore, semaphoreFitb};
 
-// The number of a semaphore, 0 to 15. 16 stands for none.
-pub struct SemaphoreId(pub u8);
-
 pub struct Semaphore {
     pub created: bool,
     pub count: u32,

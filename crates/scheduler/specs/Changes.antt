@@ -1,4 +1,4 @@
--- Priority change and preemption change. The choice that follows is not part of them.
+-- Priority change and preemption change (rules 6.6, 6.7). The choice that follows is not part of them.
 use mathlib.Core.Bool.{_&&_}
 use Prim.Native.Nat.{ℕ, min}
 use lib.Dec.{ltb}
@@ -8,18 +8,28 @@ use Rattle.scheduler.specs.declared.Scheduler.{Scheduler}
 use Rattle.scheduler.specs.Threads.{readyb}
 use Rattle.scheduler.specs.Orders.{threadAt, withThread, moved}
 
--- a priority and a threshold; a mark lasts while the threshold is below the priority
+-- rule 4.5: another priority and threshold; a mark lasts while the threshold is below the priority
 unfoldable pub withLevels : ℕ → ℕ → Thread → Thread
-withLevels p h th = record { created = th .created; state = th .state; priority = p; threshold = h; marked = th .marked && ltb h p; suspending = th .suspending; object = th .object; ticks = th .ticks }
+withLevels p h th =
+    record {
+      created = th .created;
+      state = th .state;
+      priority = p;
+      threshold = h;
+      marked = th .marked && ltb h p;
+      suspending = th .suspending;
+      object = th .object;
+      ticks = th .ticks;
+    }
 
--- "Priority change moves a ready thread to the end of the new order, and its threshold becomes the smaller of the old threshold and the new priority."
--- A thread that is not ready keeps its place.
+-- rule 6.6: another priority, and the smaller of it and the old threshold for a threshold; a ready thread joins the end of its new order,
+-- any other keeps its place
 unfoldable pub priorityChanged : Scheduler → ℕ → ℕ → Scheduler
 priorityChanged s t p =
     if readyb (threadAt s t)
     then moved s t (withLevels p (min (threadAt s t .threshold) p) (threadAt s t))
     else withThread s t (withLevels p (min (threadAt s t .threshold) p) (threadAt s t))
 
--- preemption change: another threshold, the place kept
+-- rule 6.7: another threshold, and no place changes
 unfoldable pub preemptionChanged : Scheduler → ℕ → ℕ → Scheduler
 preemptionChanged s t h = withThread s t (withLevels (threadAt s t .priority) h (threadAt s t))

@@ -1,6 +1,7 @@
 pub mod Threads
 pub mod Orders
 pub mod Choice
+pub mod Loops
 pub mod Changes
 pub mod Sound
 pub mod Claims

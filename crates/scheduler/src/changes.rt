@@ -4,7 +4,7 @@ ghost use Prim.Native.Nat.{min};
 ghost use Rattle.scheduler.specs.Changes.{withLevels, priorityChanged, preemptionChanged};
 use super::Scheduler;
 use super::thread::Thread;
-use lines::ThreadId;
+use numbers::ThreadId;
 
 fn smaller(a: u8, b: u8) -> u8
     ensures { λ r. ⌜ r ≡ min a b ⌝ }

@@ -4,10 +4,11 @@
 // (the ready threads of a priority, the waiters of an object) is the part of that line whose threads are there.
 ghost use mathlib.Core.Path.{_≡_};
 ghost use Rattle.lines.specs.Lines.{members, lineOf};
-ghost use Rattle.scheduler.specs.Orders.{threadAt, lineAt, firstAt, withThread, started};
+ghost use Rattle.scheduler.specs.Orders.{threadAt, lineAt, firstAt, withThread, idle};
 use lines::Line;
-use lines::NOBODY;
-use lines::ThreadId;
+use numbers::NOBODY;
+use numbers::THREADS;
+use numbers::ThreadId;
 use thread::Place;
 use thread::Thread;
 
@@ -20,18 +21,18 @@ pub mod thread;
 pub struct Scheduler {
     pub running: ThreadId,
     pub order: Line,
-    pub threads: [Thread; 32],
+    pub threads: [Thread; THREADS],
 }
 
 impl Scheduler {
     // No thread created, nobody runs.
     pub fn start() -> Scheduler
-        ensures { λ r. ⌜ r ≡ started ⌝ }
+        ensures { λ r. ⌜ r ≡ idle ⌝ }
     {
         Scheduler {
             running: ThreadId(NOBODY),
             order: Line::empty(),
-            threads: [Thread::uncreated(); 32],
+            threads: [Thread::uncreated(); THREADS],
         }
     }
 
@@ -40,10 +41,10 @@ impl Scheduler {
         ensures { λ r. ⌜ r ≡ threadAt self (t .0) ⌝ }
     {
         let i = t.0 as usize;
-        if i < 32 {
+        if i < THREADS {
             self.threads[i]
         } else {
-            Thread::none()
+            Thread::uncreated()
         }
     }
 
@@ -52,7 +53,7 @@ impl Scheduler {
         ensures { λ r. ⌜ r ≡ withThread self (t .0) th ⌝ }
     {
         let i = t.0 as usize;
-        if 32 <= i {
+        if THREADS <= i {
             return self;
         }
         let mut s = self;
@@ -69,12 +70,12 @@ impl Scheduler {
         let n = o.size() as usize;
         let mut i: usize = 0;
         while i < n {
-            let x = ids[i];
-            let t = x as usize;
+            let x = ThreadId(ids[i]);
+            let t = x.0 as usize;
             i += 1;
-            if t < 32 {
+            if t < THREADS {
                 if self.threads[t].is_at(p) {
-                    return ThreadId(x);
+                    return x;
                 }
             }
         }
@@ -88,17 +89,17 @@ impl Scheduler {
         let o = self.order;
         let ids = o.ids;
         let n = o.size() as usize;
-        let mut out: [u8; 32] = [0; 32];
+        let mut out: [u8; THREADS] = [0; THREADS];
         let mut len: u8 = 0;
         let mut i: usize = 0;
         while i < n {
-            let x = ids[i];
-            let t = x as usize;
+            let x = ThreadId(ids[i]);
+            let t = x.0 as usize;
             i += 1;
-            if t < 32 {
+            if t < THREADS {
                 if self.threads[t].is_at(p) {
                     let k = len as usize;
-                    out[k] = x;
+                    out[k] = x.0;
                     len += 1;
                 }
             }

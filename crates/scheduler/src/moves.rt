@@ -1,10 +1,12 @@
 // Moves: a thread gets another record and joins the order that the record puts it in.
 ghost use mathlib.Core.Path.{_≡_};
-ghost use Rattle.scheduler.specs.Orders.{moved, movedFront, joined, woken, keysAt, prioritisedAt};
+ghost use Rattle.scheduler.specs.Orders.{moved, movedFront, joined, woken, prioritisedAt};
 use super::Scheduler;
+use super::thread::Among;
 use super::thread::Place;
 use super::thread::Thread;
-use lines::ThreadId;
+use numbers::THREADS;
+use numbers::ThreadId;
 
 impl Scheduler {
     // Thread `t` with another record, at the end of its order, or in none.
@@ -13,7 +15,7 @@ impl Scheduler {
     {
         let o = self.order;
         let i = t.0 as usize;
-        if i < 32 {
+        if i < THREADS {
             self.threads[i] = th;
         }
         if th.is_standing() {
@@ -32,7 +34,7 @@ impl Scheduler {
     {
         let o = self.order;
         let i = t.0 as usize;
-        if i < 32 {
+        if i < THREADS {
             self.threads[i] = th;
         }
         if th.is_standing() {
@@ -64,26 +66,13 @@ impl Scheduler {
         self.moved(t, th.awake())
     }
 
-    // Each thread's key at a place.
-    fn keys_at(self, p: Place) -> [u8; 32]
-        ensures { λ r. ⌜ r ≡ keysAt self p ⌝ }
-    {
-        let mut keys: [u8; 32] = [0; 32];
-        let mut t: usize = 0;
-        while t < 32 {
-            keys[t] = self.threads[t].key_at(p);
-            t += 1;
-        }
-        keys
-    }
-
     // The first of the best priority at a place moved to its front, and nothing else.
     pub fn prioritised(self, p: Place) -> Scheduler
         ensures { λ r. ⌜ r ≡ prioritisedAt self p ⌝ }
     {
-        let keys = self.keys_at(p);
+        let b = self.best(Among::At(p));
         let o = self.order;
-        let l = o.prioritised(keys);
+        let l = o.fronted(b);
         let mut s = self;
         s.order = l;
         s

@@ -3,10 +3,14 @@ ghost use mathlib.Core.Path.{_≡_};
 ghost use mathlib.Core.Bool.{_&&_};
 ghost use lib.Dec.{leb};
 ghost use Rattle.lines.specs.Logic.{implies};
-ghost use Rattle.scheduler.specs.Threads.{uncreated, noThread, readyb, waitsb, pausedb, restsb, standsb, numberOf, placedb, inState, awake, withSuspension, created};
-ghost use Rattle.scheduler.specs.Orders.{keyAt};
-ghost use Rattle.scheduler.specs.Choice.{wantedb};
+ghost use Rattle.scheduler.specs.Threads.{asleep, onQueue, onSemaphore, onFlags, onBlock, uncreated, readyb, waitsb, pausedb, restsb, standsb, numberOf, placedb, readyAt, waitersAt, inState, atRest, awake, withSuspension, created};
+ghost use Rattle.scheduler.specs.Loops.{wantedb};
 ghost use Rattle.scheduler.specs.Sound.{limitsb, zerob, fitb, countedb};
+use numbers::GroupId;
+use numbers::PRIORITIES;
+use numbers::PoolId;
+use numbers::QueueId;
+use numbers::SemaphoreId;
 
 pub const READY: u8 = 0;
 
@@ -26,9 +30,6 @@ pub const ON_FLAGS: u8 = 7;
 
 pub const ON_BLOCK: u8 = 8;
 
-// Priorities are 0 to 31: this number is worse than all of them.
-pub const WORST: u8 = 32;
-
 // A thread's record. `suspending` says that a suspension is held until the wait ends; `ticks` are those left of a
 // wait or sleep, the largest number for one without end.
 pub struct Thread {
@@ -44,12 +45,71 @@ pub struct Thread {
 
 // Where threads stand: a state, and the priority of the ready threads or the object of the waiters.
 pub struct Place {
-    pub state: u8,
-    pub number: u8,
+    state: u8,
+    number: u8,
+}
+
+// Those among whom the best is looked for: the ready threads, the marked ones, those at a place.
+pub enum Among {
+    Ready,
+    Marked,
+    At(Place),
+}
+
+impl Place {
+    // Where the ready threads of a priority stand.
+    pub fn ready(priority: u8) -> Place
+        ensures { λ r. ⌜ r ≡ readyAt priority ⌝ }
+    {
+        Place {
+            state: READY,
+            number: priority,
+        }
+    }
+
+    // Where those who wait on a semaphore stand.
+    pub fn semaphore(n: SemaphoreId) -> Place
+        ensures { λ r. ⌜ r ≡ waitersAt onSemaphore (n .0) ⌝ }
+    {
+        Place {
+            state: ON_SEMAPHORE,
+            number: n.0,
+        }
+    }
+
+    // Where those who wait on a queue stand.
+    pub fn queue(n: QueueId) -> Place
+        ensures { λ r. ⌜ r ≡ waitersAt onQueue (n .0) ⌝ }
+    {
+        Place {
+            state: ON_QUEUE,
+            number: n.0,
+        }
+    }
+
+    // Where those who wait for flags of a group stand.
+    pub fn group(n: GroupId) -> Place
+        ensures { λ r. ⌜ r ≡ waitersAt onFlags (n .0) ⌝ }
+    {
+        Place {
+            state: ON_FLAGS,
+            number: n.0,
+        }
+    }
+
+    // Where those who wait for a block of a pool stand.
+    pub fn pool(n: PoolId) -> Place
+        ensures { λ r. ⌜ r ≡ waitersAt onBlock (n .0) ⌝ }
+    {
+        Place {
+            state: ON_BLOCK,
+            number: n.0,
+        }
+    }
 }
 
 impl Thread {
-    // The record of a thread that is not created.
+    // The record of a thread that is not created, and of one past the table.
     pub fn uncreated() -> Thread
         ensures { λ r. ⌜ r ≡ uncreated ⌝ }
     {
@@ -58,22 +118,6 @@ impl Thread {
             state: READY,
             priority: 0,
             threshold: 0,
-            marked: false,
-            suspending: false,
-            object: 0,
-            ticks: 0,
-        }
-    }
-
-    // The record that stands for a thread past the table.
-    pub fn none() -> Thread
-        ensures { λ r. ⌜ r ≡ noThread ⌝ }
-    {
-        Thread {
-            created: false,
-            state: READY,
-            priority: WORST,
-            threshold: WORST,
             marked: false,
             suspending: false,
             object: 0,
@@ -98,7 +142,7 @@ impl Thread {
     }
 
     // The thread in another state: its mark and a held suspension end.
-    pub fn in_state(mut self, state: u8, object: u8, ticks: u32) -> Thread
+    fn in_state(mut self, state: u8, object: u8, ticks: u32) -> Thread
         ensures { λ r. ⌜ r ≡ inState state object ticks self ⌝ }
     {
         self.state = state;
@@ -109,14 +153,35 @@ impl Thread {
         self
     }
 
+    // The thread ready, suspended, completed or terminated.
+    pub fn at_rest(self, state: u8) -> Thread
+        ensures { λ r. ⌜ r ≡ atRest state self ⌝ }
+    {
+        self.in_state(state, 0, 0)
+    }
+
+    // The thread waiting at place `p`.
+    pub fn waiting_at(self, p: Place, ticks: u32) -> Thread
+        ensures { λ r. ⌜ r ≡ inState (p .state) (p .number) ticks self ⌝ }
+    {
+        self.in_state(p.state, p.number, ticks)
+    }
+
+    // The thread asleep.
+    pub fn sleeping(self, ticks: u32) -> Thread
+        ensures { λ r. ⌜ r ≡ inState asleep 0 ticks self ⌝ }
+    {
+        self.in_state(ASLEEP, 0, ticks)
+    }
+
     // The thread when its wait or sleep has ended: a held suspension takes effect.
     pub fn awake(self) -> Thread
         ensures { λ r. ⌜ r ≡ awake self ⌝ }
     {
         if self.suspending {
-            self.in_state(SUSPENDED, 0, 0)
+            self.at_rest(SUSPENDED)
         } else {
-            self.in_state(READY, 0, 0)
+            self.at_rest(READY)
         }
     }
 
@@ -173,21 +238,14 @@ impl Thread {
         self.is_standing() & (self.state == p.state) & (self.number() == p.number)
     }
 
-    // The key by which the thread is compared at place `p`: its priority, or 255 elsewhere.
-    pub fn key_at(self, p: Place) -> u8
-        ensures { λ r. ⌜ r ≡ keyAt p self ⌝ }
+    // Whether the thread is one of those among whom the best is looked for.
+    pub fn is_wanted(self, among: Among) -> bool
+        ensures { λ r. ⌜ r ≡ wantedb among self ⌝ }
     {
-        if self.is_at(p) { self.priority } else { 255 }
-    }
-
-    // Whether the thread is ready, and marked where only the marked are wanted.
-    pub fn is_wanted(self, marked: bool) -> bool
-        ensures { λ r. ⌜ r ≡ wantedb marked self ⌝ }
-    {
-        if marked {
-            self.is_ready() & self.marked
-        } else {
-            self.is_ready()
+        match among {
+            Among::Ready => self.is_ready(),
+            Among::Marked => self.is_ready() & self.marked,
+            Among::At(p) => self.is_at(p),
         }
     }
 
@@ -208,7 +266,7 @@ impl Thread {
     fn is_limited(self) -> bool
         ensures { λ r. ⌜ r ≡ limitsb self ⌝ }
     {
-        (self.state <= ON_BLOCK) & (self.priority < WORST) & (self.threshold <= self.priority)
+        (self.state <= ON_BLOCK) & (self.priority < PRIORITIES) & (self.threshold <= self.priority)
     }
 
     // Whether the thread is ready and not better than `limit`, and its record fit in itself.

@@ -1,118 +1,145 @@
 -- Laws of the best of a list: it is the first of those with the smallest key.
 use mathlib.Core.Path.{_≡_, refl, sym, ap, _∙_}
 use mathlib.Core.List.{List, [], _∷_}
-use mathlib.Core.Bool.{Bool, true, false}
-use Prim.Native.Nat.{ℕ, _≤_, _<_, min}
+use mathlib.Core.Bool.{Bool, true, false, _&&_, and-false}
+use Prim.Native.Nat.{ℕ, _≤_, _<_}
 use native.Mathlib.Omega.{arith}
-use lib.Dec.{eqb, ltb}
-use borrow.Author.Tests.{eqb-true, eq-eqb, ne-eqb, ltb-true, ltb-false}
+use lib.Dec.{ltb, leb}
+use borrow.Author.Tests.{ltb-true, ltb-false, leb-true, le-leb}
 use Rattle.lines.specs.Logic.{if_then_else_}
-use Rattle.lines.specs.Lists.{filter, count, first, firstWith, leastOf, firstOfKey, bestOf}
-use Rattle.lines.specs.Lines.{betterOf, bestWithKey}
+use Rattle.lines.specs.Lists.{filter, count, first, firstWith, leastb, bestOf}
+use Rattle.lines.specs.Loops.{betterOf}
 use Rattle.lines.specs.declared.Best.{Best}
-use Rattle.lines.proofs.Laws.Logic.{by-test, by-eq}
-use Rattle.lines.proofs.Laws.Lists.{first-here, first-later, first-holds, first-stands, first-known, first-some, filter-yes, filter-no, count-here, count-there}
+use Rattle.lines.proofs.Laws.Logic.{by-test, by-eq, never, and-left, and-right, and-in}
+use Rattle.lines.proofs.Laws.Lists.{first-here, first-later, first-holds, first-stands, first-known, first-some, filter-same, count-here, count-there}
 
 module _ (key : ℕ → ℕ) where
-  pub least-low : (xs : List ℕ) → leastOf key xs ≤ 32
-  unfolding leastOf
-  least-low [] = omega arith
-  least-low (x ∷ xs) = let r = least-low xs in omega (arith, r)
-
   -- nobody in the list has a smaller key
-  pub least-least : (xs : List ℕ) (t : ℕ) → 0 < count t xs → leastOf key xs ≤ key t
-  unfolding leastOf count
-  least-least [] t h = absurd (let z : 0 < 0 = h in omega arith)
-  least-least (x ∷ xs) t h =
+  pub least-out : (k : ℕ) (xs : List ℕ) → leastb key k xs ≡ true → (t : ℕ) → 0 < count t xs → k ≤ key t
+  unfolding leastb count
+  least-out k [] h t c = absurd (let z : 0 < 0 = c in omega arith)
+  least-out k (x ∷ xs) h t c =
       by-eq x t
-      (λ e. let k = ap key e in omega (arith, k))
-      (λ e. let c = count-there t x xs e in let l : 0 < count t (x ∷ xs) = h in let r = least-least xs t (omega (arith, c, l)) in omega (arith, r))
+      (λ e. let a = leb-true k (key x) (and-left (leb k (key x)) (leastb key k xs) h) in let f = ap key e in omega (arith, a, f))
+      (λ e. let d = count-there t x xs e in let l : 0 < count t (x ∷ xs) = c in
+      least-out k xs (and-right (leb k (key x)) (leastb key k xs) h) t (omega (arith, d, l)))
+
+  pub least-in : (k : ℕ) (xs : List ℕ) → ((t : ℕ) → 0 < count t xs → k ≤ key t) → leastb key k xs ≡ true
+  unfolding leastb count
+  least-in k [] h = refl
+  least-in k (x ∷ xs) h =
+      and-in (leb k (key x)) (leastb key k xs)
+      (le-leb k (key x) (h x (let c = count-here x xs in omega (arith, c))))
+      (least-in k xs (λ t c. h t (let z : count t xs ≤ count t (x ∷ xs) = omega arith in omega (arith, z, c))))
 
   -- the best one has the smallest key, and stands in the list
-  pub best-key : (xs : List ℕ) → bestOf key xs < 32 → key (bestOf key xs) ≡ leastOf key xs
-  unfolding bestOf firstOfKey
-  best-key xs h = eqb-true _ _ (first-holds (λ x. eqb (key x) (leastOf key xs)) xs h)
-
   pub best-stands : (xs : List ℕ) → bestOf key xs < 32 → 0 < count (bestOf key xs) xs
-  unfolding bestOf firstOfKey
-  best-stands xs h = first-stands (λ x. eqb (key x) (leastOf key xs)) xs h
+  unfolding bestOf
+  best-stands xs h = first-stands (λ x. leastb key (key x) xs) xs h
 
   pub best-least : (xs : List ℕ) (t : ℕ) → bestOf key xs < 32 → 0 < count t xs → key (bestOf key xs) ≤ key t
-  best-least xs t h c = let a = best-key xs h in let b = least-least xs t c in omega (arith, a, b)
+  unfolding bestOf
+  best-least xs t h c = least-out (key (bestOf key xs)) xs (first-holds (λ x. leastb key (key x) xs) xs h) t c
 
-  -- a smallest key that counts is somebody's
-  attained : (xs : List ℕ) → leastOf key xs < 32 → (u : ℕ) × (0 < count u xs) × (key u ≡ leastOf key xs)
-  unfolding leastOf count
-  attained [] h = absurd (let z : 32 < 32 = h in omega arith)
-  attained (x ∷ xs) h =
-      by-test (ltb (leastOf key xs) (key x))
-      (λ w. let l = ltb-true (leastOf key xs) (key x) w in
-      let r = attained xs (let z : min (key x) (leastOf key xs) < 32 = h in omega (arith, z, l)) in
-      let c = r .1 in
-      let e = r .2 in
-      (r .0, omega (arith, c), omega (arith, e, l)))
-      (λ w. let l = ltb-false (leastOf key xs) (key x) w in let c = count-here x xs in (x, omega (arith, c), omega (arith, l)))
+  -- somebody in a list that is not empty has the smallest key
+  attained : (x : ℕ) (xs : List ℕ) → (u : ℕ) × (0 < count u (x ∷ xs)) × (leastb key (key u) (x ∷ xs) ≡ true)
+  unfolding leastb count
+  attained x [] = let c = count-here x [] in (x, omega (arith, c), and-in (leb (key x) (key x)) true (le-leb (key x) (key x) (omega arith)) refl)
+  attained x (y ∷ ys) =
+      let r = attained y ys in
+      let u = r .0 in
+      by-test (ltb (key u) (key x))
+      (λ w. let l = ltb-true (key u) (key x) w in
+      let c : 0 < count u (y ∷ ys) = r .1 in
+      let z : count u (y ∷ ys) ≤ count u (x ∷ y ∷ ys) = omega arith in
+      (u, omega (arith, c, z), and-in (leb (key u) (key x)) (leastb key (key u) (y ∷ ys)) (le-leb (key u) (key x) (omega (arith, l))) (r .2)))
+      (λ w. let l = ltb-false (key u) (key x) w in
+      let c = count-here x (y ∷ ys) in (
+        x,
+        omega (arith, c),
+        and-in (leb (key x) (key x)) (leastb key (key x) (y ∷ ys)) (le-leb (key x) (key x) (omega arith))
+            (least-in (key x) (y ∷ ys) (λ t d. let a = least-out (key u) (y ∷ ys) (r .2) t d in omega (arith, a, l))),
+      ))
 
   -- in a list of threads the best is one of them, or nobody
-  module _ (xs : List ℕ) (small : (u : ℕ) → 0 < count u xs → u < 32) where
-    pub best-known : bestOf key xs ≤ 32
-    unfolding bestOf firstOfKey
-    best-known = first-known (λ x. eqb (key x) (leastOf key xs)) xs small
+  pub best-known : (xs : List ℕ) → ((u : ℕ) → 0 < count u xs → u < 32) → bestOf key xs ≤ 32
+  unfolding bestOf
+  best-known xs small = first-known (λ x. leastb key (key x) xs) xs small
 
-    -- and somebody, where attained key counts
-    pub best-some : (t : ℕ) → 0 < count t xs → key t < 32 → bestOf key xs < 32
-    unfolding bestOf firstOfKey
-    best-some t c l =
-        let a = least-least xs t c in
-        let b = attained xs (omega (arith, a, l)) in
-        first-some (λ x. eqb (key x) (leastOf key xs)) xs (b .0) (b .1) (eq-eqb (key (b .0)) (leastOf key xs) (b .2)) small
+  -- and somebody where anybody stands in it
+  pub best-some : (xs : List ℕ) → ((u : ℕ) → 0 < count u xs → u < 32) → (t : ℕ) → 0 < count t xs → bestOf key xs < 32
+  unfolding bestOf count
+  best-some [] small t c = absurd (let z : 0 < 0 = c in omega arith)
+  best-some (x ∷ xs) small t c =
+      let a = attained x xs in
+      first-some (λ y. leastb key (key y) (x ∷ xs)) (x ∷ xs) (a .0) (a .1) (a .2) small
 
   -- ---- the loop from the end of a line
-  pub better-step : (x : ℕ) (xs : List ℕ) → betterOf x (key x) (bestWithKey key xs) ≡ bestWithKey key (x ∷ xs)
-  unfolding betterOf bestWithKey bestOf firstOfKey leastOf
-  better-step x xs =
-      by-test (ltb (leastOf key xs) (key x))
-      (λ w. let l = ltb-true (leastOf key xs) (key x) w in
-      let m : min (key x) (leastOf key xs) ≡ leastOf key xs = omega (arith, l) in
-      let f = first-later (λ y. eqb (key y) (leastOf key xs)) x xs (ne-eqb (key x) (leastOf key xs) (λ q. omega (arith, l, q))) in
-      rw (w, m, f))
-      (λ w. let l = ltb-false (leastOf key xs) (key x) w in
-      let m : min (key x) (leastOf key xs) ≡ key x = omega (arith, l) in
-      let f = first-here (λ y. eqb (key y) (key x)) x xs (eq-eqb (key x) (key x) refl) in
-      rw (w, m, f))
+  module _ (x : ℕ) (xs : List ℕ) where
+    -- the best of those behind is better than x
+    best-later : bestOf key xs < 32 → key (bestOf key xs) < key x → bestOf key (x ∷ xs) ≡ bestOf key xs
+    unfolding bestOf firstWith leastb
+    best-later h l =
+        first-later (λ y. leb (key y) (key x) && leastb key (key y) xs) x xs no
+        ∙ ap first (filter-same (λ y. leb (key y) (key x) && leastb key (key y) xs) (λ y. leastb key (key y) xs) xs same)
+      where
+        no : (leb (key x) (key x) && leastb key (key x) xs) ≡ false
+        no =
+            by-test (leb (key x) (key x) && leastb key (key x) xs)
+            (λ e. absurd (let a = least-out (key x) xs (and-right (leb (key x) (key x)) (leastb key (key x) xs) e) (bestOf key xs) (best-stands xs h) in omega (arith, a, l)))
+            (λ e. e)
 
-  -- a key over 32 does not count
-  pub better-skip : (x : ℕ) (xs : List ℕ) → 32 < key x → bestWithKey key xs ≡ bestWithKey key (x ∷ xs)
-  unfolding bestWithKey bestOf firstOfKey leastOf
-  better-skip x xs h =
-      let l = least-low xs in
-      let m : min (key x) (leastOf key xs) ≡ leastOf key xs = omega (arith, l) in
-      let f = first-later (λ y. eqb (key y) (leastOf key xs)) x xs (ne-eqb (key x) (leastOf key xs) (λ q. omega (arith, l, q))) in
-      rw (m, f)
+        same : (y : ℕ) → (leb (key y) (key x) && leastb key (key y) xs) ≡ leastb key (key y) xs
+        same y =
+            by-test (leastb key (key y) xs)
+            (λ e. let a = least-out (key y) xs e (bestOf key xs) (best-stands xs h) in
+            and-in (leb (key y) (key x)) (leastb key (key y) xs) (le-leb (key y) (key x) (omega (arith, a, l))) e ∙ sym e)
+            (λ e. ap (λ (b : Bool). leb (key y) (key x) && b) e ∙ and-false (leb (key y) (key x)) ∙ sym e)
 
--- the best among those for whom a test holds: the others' keys are over 32
-pub best-among : (f : ℕ → Bool) (key : ℕ → ℕ) (xs : List ℕ) → bestWithKey (λ t. if f t then key t else 255) xs ≡ bestWithKey key (filter f xs)
-unfolding filter bestWithKey bestOf leastOf firstOfKey firstWith first
-best-among f key [] = refl
-best-among f key (x ∷ xs) =
-    by-test (f x)
-    (λ q. sym (better-step k x xs)
-    ∙ (λ i. betterOf x (yes q i) (best-among f key xs i))
-    ∙ better-step key x (filter f xs)
-    ∙ ap (bestWithKey key) (sym (filter-yes f x xs q)))
-    (λ q. sym (better-skip k x xs (let e = no q in omega (arith, e)))
-    ∙ best-among f key xs
-    ∙ ap (bestWithKey key) (sym (filter-no f x xs q)))
-  where
-    k : ℕ → ℕ
-    k t = if f t then key t else 255
+    -- nobody behind is better than x
+    best-here : ((t : ℕ) → 0 < count t xs → key x ≤ key t) → bestOf key (x ∷ xs) ≡ x
+    unfolding bestOf leastb
+    best-here h =
+        first-here (λ y. leb (key y) (key x) && leastb key (key y) xs) x xs
+        (and-in (leb (key x) (key x)) (leastb key (key x) xs) (le-leb (key x) (key x) (omega arith)) (least-in (key x) xs h))
 
-    yes : f x ≡ true → k x ≡ key x
-    yes q = ap (λ (b : Bool). if b then key x else 255) q
+  -- what the loop has found among those behind: the best and its key, or nobody and the largest key of a byte
+  abbrev pub Found : List ℕ → Best → Type 0
+  Found xs b = (b .id .0 ≡ bestOf key xs) × (bestOf key xs < 32 → b .key ≡ key (bestOf key xs)) × (32 ≤ bestOf key xs → b .key ≡ 255)
 
-    no : f x ≡ false → k x ≡ 255
-    no q = ap (λ (b : Bool). if b then key x else 255) q
+  pub found-nobody : Found [] (record { id = record { 0 = 32 }; key = 255 })
+  unfolding bestOf firstWith first filter
+  found-nobody = (refl, (λ h. absurd (let z : 32 < 32 = h in omega arith)), λ h. refl)
 
-pub best-of-among : (f : ℕ → Bool) (key : ℕ → ℕ) (xs : List ℕ) → bestOf (λ t. if f t then key t else 255) xs ≡ bestOf key (filter f xs)
-unfolding bestWithKey
-best-of-among f key xs = ap (λ (b : Best). b .id) (best-among f key xs)
+  -- one thread more, of any key that a byte can be
+  module _ (x : ℕ) (xs : List ℕ) (small : (u : ℕ) → 0 < count u xs → u < 32) (b : Best) (f : Found xs b) (known : x < 32) (byte : key x ≤ 255) where
+    -- where the best of those behind is not better than x, nobody behind is
+    nearer : ltb (b .key) (key x) ≡ false → (t : ℕ) → 0 < count t xs → key x ≤ key t
+    nearer w t c =
+        let h = best-some xs small t c in
+        let k = f .1 h in
+        let m = best-least xs t h c in
+        let n = ltb-false (b .key) (key x) w in omega (arith, n, k, m)
+
+    pub found-more : Found (x ∷ xs) (betterOf x (key x) b)
+    unfolding betterOf
+    found-more =
+        by-test (ltb (b .key) (key x))
+        (λ w. let l = ltb-true (b .key) (key x) w in
+        let n : bestOf key xs < 32 = by-test (ltb (bestOf key xs) 32) (λ v. ltb-true (bestOf key xs) 32 v) (λ v. absurd (let z = f .2 (ltb-false (bestOf key xs) 32 v) in omega (arith, z, l, byte))) in
+        let k = f .1 n in
+        let same = best-later x xs n (omega (arith, l, k)) in
+        let s = ap (λ (c : Bool). if c then b else here) w in (
+          ap (λ (c : Best). c .id .0) s ∙ f .0 ∙ sym same,
+          (λ _. ap (λ (c : Best). c .key) s ∙ k ∙ ap key (sym same)),
+          λ h. absurd (omega (arith, h, same, n)),
+        ))
+        (λ w. let same = best-here x xs (nearer w) in
+        let s = ap (λ (c : Bool). if c then b else here) w in (
+          ap (λ (c : Best). c .id .0) s ∙ sym same,
+          (λ _. ap (λ (c : Best). c .key) s ∙ ap key (sym same)),
+          λ h. absurd (omega (arith, h, same, known)),
+        ))
+      where
+        here : Best
+        here = record { id = record { 0 = x }; key = key x }

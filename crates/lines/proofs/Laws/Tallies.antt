@@ -8,7 +8,7 @@ use lib.ListN.{length, getD, length-set, replicate}
 use lib.Seq.{getD-set-same, getD-set-other}
 use lib.Dec.{eqb, ltb}
 use borrow.Author.Tests.{ne-eqb, lt-ltb, le-ltb, ltb-true, ltb-false}
-use Rattle.lines.specs.Lines.{slotOf, tally}
+use Rattle.lines.specs.Loops.{slotOf, tally}
 use Rattle.lines.specs.Lists.{count, below}
 use Rattle.lines.proofs.Laws.Logic.{by-test, by-eq, by-choice}
 use Rattle.lines.proofs.Laws.Lists.{count-here, count-there}

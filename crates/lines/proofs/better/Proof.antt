@@ -1,5 +1,5 @@
 use borrow.Author.Tests.{lt-ltb, le-ltb}
-use Rattle.lines.specs.Lines.{betterOf}
+use Rattle.lines.specs.Loops.{betterOf}
 use Rattle.lines.proofs.better.Statement.{statement}
 use Rattle.lines.proofs.better.Tie as tie
 

@@ -10,7 +10,7 @@ use Rattle.lines.proofs.Laws.Bits.{union-more}
 use Rattle.lines.proofs.Laws.Lines.{kept-one, left-one}
 use Rattle.objects.specs.Groups.{metb, clearOf}
 use Rattle.objects.proofs.Laws.Groups.{met-zero}
-use Rattle.matching.specs.Matching.{metAtb, wokenOf, clearsOf}
+use Rattle.matching.specs.Loops.{metAtb, wokenOf, clearsOf}
 
 module _ (flags : ℕ) (requests options : List ℕ) where
   -- a number past the table asks for nothing

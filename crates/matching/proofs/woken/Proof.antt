@@ -11,7 +11,7 @@ use Rattle.lines.specs.declared.Line.{Line}
 use Rattle.lines.specs.Lists.{filter, unionOf}
 use Rattle.lines.specs.Lines.{members, pad, lineOf}
 use Rattle.lines.proofs.Laws.Lines.{length-members, members-take, one-more, full}
-use Rattle.matching.specs.Matching.{metAtb, wokenOf, clearsOf}
+use Rattle.matching.specs.Loops.{metAtb, wokenOf, clearsOf}
 use Rattle.matching.proofs.Laws.Steps.{unknown, woken-more, woken-same, clears-more, clears-same}
 use Rattle.matching.proofs.woken.Statement.{statement}
 use Rattle.matching.proofs.woken.Tie as tie
@@ -35,8 +35,8 @@ loop-holds c =
 loop-again : tie.Need-loop-again Inv-loop μ-loop
 unfolding metAtb
 loop-again c =
-    let l = c .before .before .before .before .before .before .loop in
-    let a = c .before .before .before .before .before .before .before .before .before .args in
+    let l = c .before .before .before .before .before .before .before .loop in
+    let a = c .before .before .before .before .before .before .before .before .before .before .args in
     let h : l .i < length (a .line .ids) = omega arith in
     let w = wokenOf (a .flags) (a .t3) (a .t4) (take (l .i) (a .line .ids)) in
     let o : Line = record { ids = l .out; len = l .len } in
@@ -50,8 +50,8 @@ loop-again c =
 loop-again-2 : tie.Need-loop-again-2 Inv-loop μ-loop
 unfolding metAtb
 loop-again-2 c =
-    let l = c .before .before .before .before .before .before .loop in
-    let a = c .before .before .before .before .before .before .before .before .before .args in
+    let l = c .before .before .before .before .before .before .before .loop in
+    let a = c .before .before .before .before .before .before .before .before .before .before .args in
     let h : l .i < length (a .line .ids) = omega arith in
     let w = wokenOf (a .flags) (a .t3) (a .t4) (take (l .i) (a .line .ids)) in
     let o : Line = record { ids = l .out; len = l .len } in
@@ -65,8 +65,8 @@ loop-again-2 c =
 loop-again-3 : tie.Need-loop-again-3 Inv-loop μ-loop
 unfolding metAtb
 loop-again-3 c =
-    let l = c .before .before .before .before .before .loop in
-    let a = c .before .before .before .before .before .before .before .before .args in
+    let l = c .before .before .before .before .before .before .loop in
+    let a = c .before .before .before .before .before .before .before .before .before .args in
     let h : l .i < length (a .line .ids) = omega arith in
     let y : metAtb (a .flags) (a .t3) (a .t4) (getD (a .line .ids) (l .i) 0) ≡ false = sym (c .before .is-met .ensures) ∙ c .if2 .left in (
       omega arith,
@@ -80,8 +80,8 @@ loop-again-3 c =
 
 loop-again-4 : tie.Need-loop-again-4 Inv-loop μ-loop
 loop-again-4 c =
-    let l = c .before .before .loop in
-    let a = c .before .before .before .before .before .args in
+    let l = c .before .before .before .loop in
+    let a = c .before .before .before .before .before .before .args in
     let h : l .i < length (a .line .ids) = omega arith in
     let r : length (a .t3) ≡ 32 = search needs in
     let y = unknown (a .flags) (a .t3) (a .t4) (getD (a .line .ids) (l .i) 0) (omega (arith, r, c .if1 .left)) in (

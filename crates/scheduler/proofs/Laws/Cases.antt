@@ -1,15 +1,15 @@
 -- The worked cases, computed.
 use mathlib.Core.Path.{refl}
-use Rattle.lines.specs.Lists.{filter, without, first, firstWith, leastOf, firstOfKey, bestOf, prioritised}
+use Rattle.lines.specs.Lists.{filter, without, first, firstWith, leastb, bestOf, fronted}
 use Rattle.lines.specs.Lines.{members, pad, lineOf}
-use Rattle.scheduler.specs.Threads.{uncreated, noThread, readyb, waitsb, markedb, standsb, numberOf, placedb}
-use Rattle.scheduler.specs.Orders.{threadAt, lineAt, withThread, withOrder, withRunner, started, moved, keyAt, prioritisedAt}
-use Rattle.scheduler.specs.Choice.{bestAmong, bestReady, bestMarked, staysb, overtakesb, nextOf, withMark, replaced, ran, rescheduled, relinquished}
+use Rattle.scheduler.specs.Threads.{uncreated, readyb, waitsb, markedb, standsb, numberOf, placedb}
+use Rattle.scheduler.specs.Orders.{threadAt, lineAt, withThread, withOrder, withRunner, idle, moved, prioritisedAt}
+use Rattle.scheduler.specs.Choice.{bestAmong, bestReady, bestMarked, staysb, overtakesb, nextOf, withMark, replaced, dispatched, rescheduled, relinquished}
 use Rattle.scheduler.specs.Changes.{withLevels, priorityChanged, preemptionChanged}
-use Rattle.scheduler.specs.Cases.{thread, resumes, finishes, changesPriority, changesThreshold, p3a, p3b, plain, preempted, twice, waiting, Cases}
+use Rattle.scheduler.specs.Cases.{threadWith, resumes, finishes, changesPriority, changesThreshold, p3a, p3b, plain, preempted, twice, waitingThreads, Cases}
 
 pub cases : Cases
-unfolding thread resumes finishes changesPriority changesThreshold p3a p3b plain preempted twice waiting filter without first firstWith leastOf firstOfKey bestOf prioritised members pad lineOf uncreated noThread readyb waitsb markedb standsb numberOf placedb threadAt lineAt withThread withOrder withRunner started moved keyAt prioritisedAt bestAmong bestReady bestMarked staysb overtakesb nextOf withMark replaced ran rescheduled relinquished withLevels priorityChanged preemptionChanged
+unfolding threadWith resumes finishes changesPriority changesThreshold p3a p3b plain preempted twice waitingThreads filter without first firstWith leastb bestOf fronted members pad lineOf uncreated readyb waitsb markedb standsb numberOf placedb threadAt lineAt withThread withOrder withRunner idle moved prioritisedAt bestAmong bestReady bestMarked staysb overtakesb nextOf withMark replaced dispatched rescheduled relinquished withLevels priorityChanged preemptionChanged
 cases =
     record {
       p3 = (refl, refl, refl);

@@ -1,20 +1,21 @@
 -- The choice after a call, case by case.
-use mathlib.Core.Path.{_≡_, refl, ap, ap₂}
-use mathlib.Core.Bool.{Bool, true, false, _&&_, not}
+use mathlib.Core.Path.{_≡_, refl, ap, _∙_}
+use mathlib.Core.Bool.{Bool, true, false, _&&_, _||_, not}
 use Prim.Native.Nat.{ℕ}
 use lib.Dec.{ltb}
+use Rattle.numbers.specs.Numbers.{nobody}
 use Rattle.lines.specs.Logic.{if_then_else_}
 use Rattle.scheduler.specs.declared.thread.Thread.{Thread}
 use Rattle.scheduler.specs.declared.Scheduler.{Scheduler}
 use Rattle.scheduler.specs.Threads.{readyb}
-use Rattle.scheduler.specs.Orders.{threadAt, runner}
-use Rattle.scheduler.specs.Choice.{bestReady, bestMarked, staysb, overtakesb, nextOf, replaced, ran, rescheduled}
+use Rattle.scheduler.specs.Orders.{threadAt, priorityAt, thresholdAt, runner}
+use Rattle.scheduler.specs.Choice.{bestReady, bestMarked, staysb, overtakesb, nextOf, replaced, dispatched, rescheduled}
 
 module _ (s : Scheduler) (b : Bool) where
   -- the runner and the next thread, by the two tests of each case
   abbrev outcome : Bool → Bool → Bool → Scheduler
   outcome stays over past =
-      ran (if stays && over then replaced s else s)
+      dispatched (if stays && over then replaced s else s)
       (if stays then (if over then bestReady s else runner s) else (if past then bestReady s else bestMarked s))
 
   by-outcome : (x y z : Bool) → staysb s b ≡ x → overtakesb s (runner s) ≡ y → overtakesb s (bestMarked s) ≡ z → rescheduled s b ≡ outcome x y z
@@ -22,17 +23,17 @@ module _ (s : Scheduler) (b : Bool) where
   by-outcome x y z e f g = λ i. outcome (e i) (f i) (g i)
 
   -- a runner that stays is replaced, or goes on
-  pub is-replaced : staysb s b ≡ true → overtakesb s (runner s) ≡ true → rescheduled s b ≡ ran (replaced s) (bestReady s)
+  pub is-replaced : staysb s b ≡ true → overtakesb s (runner s) ≡ true → rescheduled s b ≡ dispatched (replaced s) (bestReady s)
   is-replaced e f = by-outcome true true (overtakesb s (bestMarked s)) e f refl
 
-  pub goes-on : staysb s b ≡ true → overtakesb s (runner s) ≡ false → rescheduled s b ≡ ran s (runner s)
+  pub goes-on : staysb s b ≡ true → overtakesb s (runner s) ≡ false → rescheduled s b ≡ dispatched s (runner s)
   goes-on e f = by-outcome true false (overtakesb s (bestMarked s)) e f refl
 
   -- a runner that leaves is followed by the best ready thread, or by the marked one
-  pub best-follows : staysb s b ≡ false → overtakesb s (bestMarked s) ≡ true → rescheduled s b ≡ ran s (bestReady s)
+  pub best-follows : staysb s b ≡ false → overtakesb s (bestMarked s) ≡ true → rescheduled s b ≡ dispatched s (bestReady s)
   best-follows e g = by-outcome false (overtakesb s (runner s)) true e refl g
 
-  pub marked-follows : staysb s b ≡ false → overtakesb s (bestMarked s) ≡ false → rescheduled s b ≡ ran s (bestMarked s)
+  pub marked-follows : staysb s b ≡ false → overtakesb s (bestMarked s) ≡ false → rescheduled s b ≡ dispatched s (bestMarked s)
   marked-follows e g = by-outcome false (overtakesb s (runner s)) false e refl g
 
 -- ---- the tests on records that were read before
@@ -40,6 +41,9 @@ pub stays-from : (s : Scheduler) (b : Bool) (th : Thread) → th ≡ threadAt s 
 unfolding staysb
 stays-from s b th e = ap (λ (x : Thread). readyb x && not b) e
 
-pub overtakes-from : (s : Scheduler) (t : ℕ) (head th : Thread) → head ≡ threadAt s (bestReady s) → th ≡ threadAt s t → ltb (head .priority) (th .threshold) ≡ overtakesb s t
+pub overtakes-from : (s : Scheduler) (t h u : ℕ) (head th : Thread) → h ≡ bestReady s → u ≡ t → head ≡ threadAt s h → th ≡ threadAt s u
+    → (ltb h nobody && (not (ltb u nobody) || ltb (head .priority) (th .threshold))) ≡ overtakesb s t
 unfolding overtakesb
-overtakes-from s t head th e f = ap₂ (λ (x y : Thread). ltb (x .priority) (y .threshold)) e f
+overtakes-from s t h u head th e f a b =
+    (λ i. ltb h nobody && (not (ltb u nobody) || ltb (a i .priority) (b i .threshold)))
+    ∙ (λ i. ltb (e i) nobody && (not (ltb (f i) nobody) || ltb (priorityAt s (e i)) (thresholdAt s (f i))))

@@ -1,25 +1,25 @@
 -- The choice after a call moves nobody, and leaves steady tables sound.
 use mathlib.Core.Path.{_≡_, sym, ap, _∙_}
-use mathlib.Core.Bool.{Bool, true, false, not}
+use mathlib.Core.Bool.{Bool, true, false, _&&_, _||_, not}
 use Prim.Native.Nat.{ℕ, _≤_, _<_}
 use native.Mathlib.Omega.{arith}
 use lib.Seq.{set-out}
 use lib.Dec.{ltb}
-use borrow.Author.Tests.{ltb-true, ltb-false}
+use borrow.Author.Tests.{ltb-true, ltb-false, lt-ltb}
 use Rattle.lines.specs.Logic.{oneIf}
 use Rattle.lines.specs.Lists.{filter, count}
 use Rattle.lines.specs.Lines.{members}
-use Rattle.lines.proofs.Laws.Logic.{by-test, and-left, and-in}
+use Rattle.lines.proofs.Laws.Logic.{by-test, never, and-left, and-in}
 use Rattle.lines.proofs.Laws.Lists
 use Rattle.lines.proofs.Laws.Bests
 use Rattle.scheduler.specs.declared.thread.Thread.{Thread}
 use Rattle.scheduler.specs.declared.thread.Place.{Place}
 use Rattle.scheduler.specs.declared.Scheduler.{Scheduler}
-use Rattle.scheduler.specs.Threads.{noThread, readyb, markedb, placedb}
+use Rattle.scheduler.specs.Threads.{uncreated, readyb, markedb, placedb}
 use Rattle.scheduler.specs.Orders.{threadAt, priorityAt, thresholdAt, runner, lineAt, withThread, withRunner}
-use Rattle.scheduler.specs.Choice.{bestAmong, bestReady, bestMarked, staysb, overtakesb, withMark, replaced, ran, rescheduled}
+use Rattle.scheduler.specs.Choice.{bestAmong, bestReady, bestMarked, staysb, overtakesb, withMark, replaced, dispatched, rescheduled}
 use Rattle.scheduler.specs.Sound.{fitb, Steady, Runs, Sound}
-use Rattle.scheduler.proofs.Laws.Threads.{none-at, ready-stands, marked-ready, fit-low, fit-threshold, fit-mark, fit-unmark, mark-ready, mark-stands, mark-placed, mark-priority, mark-threshold, mark-marked}
+use Rattle.scheduler.proofs.Laws.Threads.{none-at, ready-stands, marked-ready, fit-threshold, fit-mark, fit-unmark, mark-ready, mark-stands, mark-placed, mark-priority, mark-threshold, mark-marked}
 use Rattle.scheduler.proofs.Laws.Orders
 use Rattle.scheduler.proofs.Laws.Choice.{is-replaced, goes-on, best-follows, marked-follows}
 
@@ -51,23 +51,23 @@ module _ (s : Scheduler) (S : Steady s) (t : ℕ) (b : Bool) where
 
 -- ---- the thread that runs
 module _ (s : Scheduler) (S : Steady s) (n : ℕ) where
-  ran-steady : Steady (ran s n)
-  unfolding ran withRunner threadAt
+  ran-steady : Steady (dispatched s n)
+  unfolding dispatched withRunner threadAt
   ran-steady =
       let M : Steady (marks s S n false) = mark-steady s S n false (λ l. fit-unmark (threadAt s n) (S .fit n l)) in
       record { sized = M .sized; clean = M .clean; placed = M .placed; fit = M .fit }
 
-  ran-line : (p : Place) → lineAt (ran s n) p ≡ lineAt s p
-  unfolding ran withRunner threadAt lineAt
+  ran-line : (p : Place) → lineAt (dispatched s n) p ≡ lineAt s p
+  unfolding dispatched withRunner threadAt lineAt
   ran-line p = mark-line s S n false p
 
   -- what a mark keeps
-  pub ran-keeps : {X : Type 0} (g : Thread → X) → ((c : Bool) (th : Thread) → g (withMark c th) ≡ g th) → (u : ℕ) → g (threadAt (ran s n) u) ≡ g (threadAt s u)
-  unfolding ran withRunner threadAt
+  pub ran-keeps : {X : Type 0} (g : Thread → X) → ((c : Bool) (th : Thread) → g (withMark c th) ≡ g th) → (u : ℕ) → g (threadAt (dispatched s n) u) ≡ g (threadAt s u)
+  unfolding dispatched withRunner threadAt
   ran-keeps = mark-keeps s S n false
 
-  ran-unmarked : threadAt (ran s n) n .marked ≡ false
-  unfolding ran withRunner threadAt noThread
+  ran-unmarked : threadAt (dispatched s n) n .marked ≡ false
+  unfolding dispatched withRunner threadAt uncreated
   ran-unmarked =
       by-test (ltb n 32)
       (λ w. ap (λ (x : Thread). x .marked) (Orders.kept-self s S n (withMark false (threadAt s n)) (ltb-true n 32 w)) ∙ mark-marked false (threadAt s n))
@@ -75,8 +75,8 @@ module _ (s : Scheduler) (S : Steady s) (n : ℕ) where
       ap (λ (x : Scheduler). threadAt x n .marked) (marks-out s S n false o) ∙ ap (λ (x : Thread). x .marked) (none-at s n (S .sized) o))
 
   ran-runs : n ≤ 32 → (n < 32 → readyb (threadAt s n) ≡ true) → (n ≡ 32 → (t : ℕ) → readyb (threadAt s t) ≡ false)
-      → ((t : ℕ) → readyb (threadAt s t) ≡ true → thresholdAt s n ≤ priorityAt s t) → Runs (ran s n)
-  unfolding ran withRunner
+      → ((t : ℕ) → readyb (threadAt s t) ≡ true → thresholdAt s n ≤ priorityAt s t) → Runs (dispatched s n)
+  unfolding dispatched withRunner
   ran-runs known ready none best =
       record {
         known = known;
@@ -126,7 +126,6 @@ module _ (s : Scheduler) (S : Steady s) where
   unfolding bestReady bestAmong
   best-some t r =
       Bests.best-some (priorityAt s) (filter (λ u. readyb (threadAt s u)) (members (s .order))) (among-small readyb (λ th e. e)) t (ready-counted t r)
-      (fit-low (threadAt s t) (S .fit t (ready-small t r)))
 
   pub best-is-ready : bestReady s < 32 → readyb (threadAt s (bestReady s)) ≡ true
   unfolding bestReady
@@ -144,46 +143,37 @@ module _ (s : Scheduler) (S : Steady s) where
   unfolding bestMarked bestAmong
   marked-known = Bests.best-known (priorityAt s) (filter (λ u. markedb (threadAt s u)) (members (s .order))) (among-small markedb marked-ready)
 
-  -- a best priority below 32 is somebody's
-  pub worst-is-nobody : (t : ℕ) → 32 ≤ t → priorityAt s t ≡ 32
-  unfolding noThread
-  worst-is-nobody t o = ap (λ (x : Thread). x .priority) (none-at s t (S .sized) o)
-
-  pub threshold-low : (t : ℕ) → thresholdAt s t ≤ 32
-  unfolding noThread
-  threshold-low t =
-      by-test (ltb t 32)
-      (λ w. let f = S .fit t (ltb-true t 32 w) in let a = fit-low (threadAt s t) f in let b = fit-threshold (threadAt s t) f in omega (arith, a, b))
-      (λ w. let e = ap (λ (x : Thread). x .threshold) (none-at s t (S .sized) (ltb-false t 32 w)) in omega (arith, e))
-
   -- whoever overtakes is a thread, and its own threshold keeps nobody waiting
   overtaker : (t : ℕ) → overtakesb s t ≡ true → bestReady s < 32
   unfolding overtakesb
-  overtaker t o =
-      by-test (ltb (bestReady s) 32)
-      (λ w. ltb-true (bestReady s) 32 w)
-      (λ w. absurd (let e = worst-is-nobody (bestReady s) (ltb-false (bestReady s) 32 w) in let a = ltb-true (priorityAt s (bestReady s)) (thresholdAt s t) o in let c = threshold-low t in omega (arith, e, a, c)))
+  overtaker t o = ltb-true (bestReady s) 32 (and-left (ltb (bestReady s) 32) (not (ltb t 32) || ltb (priorityAt s (bestReady s)) (thresholdAt s t)) o)
 
   best-fit : bestReady s < 32 → (t : ℕ) → readyb (threadAt s t) ≡ true → thresholdAt s (bestReady s) ≤ priorityAt s t
   best-fit l t r =
       let a = fit-threshold (threadAt s (bestReady s)) (S .fit (bestReady s) l) in
       let b = best-least t r l in omega (arith, a, b)
 
+  -- where somebody is ready, and t is not overtaken, t is a thread whose threshold is at most the best priority
+  held-off : (n : ℕ) → overtakesb s n ≡ false → (t : ℕ) → readyb (threadAt s t) ≡ true → (ltb n 32 ≡ true) × (thresholdAt s n ≤ priorityAt s (bestReady s))
+  unfolding overtakesb
+  held-off n o t r =
+      let l = lt-ltb (bestReady s) 32 (best-some t r) in
+      let e = sym (ap (λ (b : Bool). b && (not (ltb n 32) || ltb (priorityAt s (bestReady s)) (thresholdAt s n))) l) ∙ o in
+      by-test (ltb n 32)
+      (λ w. (w, ltb-false (priorityAt s (bestReady s)) (thresholdAt s n) (sym (ap (λ (b : Bool). not b || ltb (priorityAt s (bestReady s)) (thresholdAt s n)) w) ∙ e)))
+      (λ w. never (ap (λ (b : Bool). not b || ltb (priorityAt s (bestReady s)) (thresholdAt s n)) w) e)
+
   -- who is not overtaken keeps nobody better waiting
   not-overtaken : (n : ℕ) → overtakesb s n ≡ false → (t : ℕ) → readyb (threadAt s t) ≡ true → thresholdAt s n ≤ priorityAt s t
-  unfolding overtakesb
   not-overtaken n o t r =
-      let a = ltb-false (priorityAt s (bestReady s)) (thresholdAt s n) o in
+      let a = held-off n o t r .1 in
       let b = best-least t r (best-some t r) in omega (arith, a, b)
 
   -- nobody follows only where nobody is ready
   nobody-left : (n : ℕ) → overtakesb s n ≡ false → n ≡ 32 → (t : ℕ) → readyb (threadAt s t) ≡ false
-  unfolding noThread
   nobody-left n o e t =
       by-test (readyb (threadAt s t))
-      (λ r. absurd (let a = not-overtaken n o t r in
-      let b = ap (λ (x : Thread). x .threshold) (none-at s n (S .sized) (omega (arith, e))) in
-      let c = fit-low (threadAt s t) (S .fit t (ready-small t r)) in omega (arith, a, b, c)))
+      (λ r. absurd (let a = ltb-true n 32 (held-off n o t r .0) in omega (arith, a, e)))
       (λ r. r)
 
   -- ---- a replaced runner
@@ -203,10 +193,10 @@ module _ (s : Scheduler) (S : Steady s) where
 
   -- ---- the choice, by its four cases
   by-case : (P : Scheduler → Type 0) (b : Bool)
-      → (readyb (threadAt s (runner s)) ≡ true → overtakesb s (runner s) ≡ true → P (ran (replaced s) (bestReady s)))
-      → (readyb (threadAt s (runner s)) ≡ true → overtakesb s (runner s) ≡ false → P (ran s (runner s)))
-      → (overtakesb s (bestMarked s) ≡ true → P (ran s (bestReady s)))
-      → (overtakesb s (bestMarked s) ≡ false → P (ran s (bestMarked s)))
+      → (readyb (threadAt s (runner s)) ≡ true → overtakesb s (runner s) ≡ true → P (dispatched (replaced s) (bestReady s)))
+      → (readyb (threadAt s (runner s)) ≡ true → overtakesb s (runner s) ≡ false → P (dispatched s (runner s)))
+      → (overtakesb s (bestMarked s) ≡ true → P (dispatched s (bestReady s)))
+      → (overtakesb s (bestMarked s) ≡ false → P (dispatched s (bestMarked s)))
       → P (rescheduled s b)
   unfolding staysb
   by-case P b f g h k =
@@ -245,7 +235,7 @@ module _ (s : Scheduler) (S : Steady s) where
       (λ o. ran-keeps s S (bestReady s) g h u)
       (λ o. ran-keeps s S (bestMarked s) g h u)
 
-  best-runs : bestReady s < 32 → Runs (ran s (bestReady s))
+  best-runs : bestReady s < 32 → Runs (dispatched s (bestReady s))
   best-runs l =
       ran-runs s S (bestReady s) (omega (arith, l)) best-is-ready
       (λ e. absurd (omega (arith, e, l)))

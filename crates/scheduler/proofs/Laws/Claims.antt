@@ -4,11 +4,11 @@ use mathlib.Core.List.{[]}
 use mathlib.Core.Bool.{true}
 use Prim.Native.Nat.{_<_}
 use Rattle.lines.specs.Logic.{oneIf, allBelow}
-use Rattle.lines.specs.Lists.{filter, count, below, first, firstWith, leastOf, firstOfKey, bestOf}
+use Rattle.lines.specs.Lists.{filter, count, below, first, firstWith, leastb, bestOf}
 use Rattle.lines.specs.Lines.{members, pad, lineOf, cleanb}
 use Rattle.scheduler.specs.declared.Scheduler.{Scheduler}
-use Rattle.scheduler.specs.Threads.{uncreated, noThread, readyb, waitsb, standsb}
-use Rattle.scheduler.specs.Orders.{threadAt, runner, lineAt, started, moved}
+use Rattle.scheduler.specs.Threads.{uncreated, readyb, waitsb, standsb}
+use Rattle.scheduler.specs.Orders.{threadAt, runner, lineAt, idle, moved}
 use Rattle.scheduler.specs.Choice.{bestAmong, bestReady, relinquished}
 use Rattle.scheduler.specs.Sound.{zerob, fitb, countedb, steadyb, runsb, soundb, Sound}
 use Rattle.scheduler.specs.Claims.{Claims}
@@ -19,13 +19,13 @@ use Rattle.scheduler.proofs.Laws.Changing
 use Rattle.scheduler.proofs.Laws.Testing
 use Rattle.scheduler.proofs.Laws.Fairness
 
-started-passes : soundb started ≡ true
-unfolding started uncreated noThread readyb waitsb standsb threadAt members pad lineOf cleanb filter count below first firstWith leastOf firstOfKey bestOf bestAmong bestReady oneIf allBelow zerob fitb countedb steadyb runsb soundb
+started-passes : soundb idle ≡ true
+unfolding idle uncreated readyb waitsb standsb threadAt members pad lineOf cleanb filter count below first firstWith leastb bestOf bestAmong bestReady oneIf allBelow zerob fitb countedb steadyb runsb soundb
 started-passes = refl
 
-start-sound : Sound started
-unfolding started
-start-sound = Testing.tested started refl started-passes
+start-sound : Sound idle
+unfolding idle
+start-sound = Testing.tested idle refl started-passes
 
 relinquish-sound : (s : Scheduler) → Sound s → runner s < 32 → Sound (relinquished s)
 unfolding relinquished

@@ -9,7 +9,7 @@ use lib.Seq.{getD-set-same, getD-set-other, set-out}
 use lib.Dec.{ltb}
 use borrow.Author.Tests.{ltb-true, ltb-false}
 use Rattle.lines.specs.Logic.{oneIf}
-use Rattle.lines.specs.Lists.{filter, without, onlyIf, count, bestOf, prioritised}
+use Rattle.lines.specs.Lists.{filter, without, onlyIf, count, bestOf, fronted, prioritised}
 use Rattle.lines.specs.Lines.{members}
 use Rattle.lines.proofs.Laws.Logic.{by-test, by-eq, never, one-at-most}
 use Rattle.lines.proofs.Laws.Lists
@@ -18,8 +18,8 @@ use Rattle.lines.proofs.Laws.Lines.{members-short, lineOf-clean}
 use Rattle.scheduler.specs.declared.thread.Thread.{Thread}
 use Rattle.scheduler.specs.declared.thread.Place.{Place}
 use Rattle.scheduler.specs.declared.Scheduler.{Scheduler}
-use Rattle.scheduler.specs.Threads.{noThread, standsb, placedb}
-use Rattle.scheduler.specs.Orders.{threadAt, priorityAt, lineAt, withThread, withOrder, moved, movedFront, keyAt, prioritisedAt}
+use Rattle.scheduler.specs.Threads.{uncreated, standsb, placedb}
+use Rattle.scheduler.specs.Orders.{threadAt, priorityAt, lineAt, withThread, withOrder, moved, movedFront, prioritisedAt}
 use Rattle.scheduler.specs.Sound.{fitb, Steady}
 use Rattle.scheduler.proofs.Laws.Threads.{none-at, none-stands, placed-stands, other-place}
 
@@ -85,11 +85,11 @@ module _ (s : Scheduler) (sized : length (s .threads) ≡ 32) (fit : (t : ℕ) �
 module _ (s : Scheduler) (S : Steady s) (t : ℕ) (th : Thread) (small : t < 32) where
   pub kept-self : threadAt (withThread s t th) t ≡ th
   unfolding threadAt withThread
-  kept-self = getD-set-same (s .threads) t th noThread (omega (arith, S .sized))
+  kept-self = getD-set-same (s .threads) t th uncreated (omega (arith, S .sized))
 
   pub kept-other : (u : ℕ) → (u ≡ t → ⊥) → threadAt (withThread s t th) u ≡ threadAt s u
   unfolding threadAt withThread
-  kept-other u n = getD-set-other (s .threads) t u th noThread n
+  kept-other u n = getD-set-other (s .threads) t u th uncreated n
 
   -- what the new record has in common with the old one, every thread keeps
   pub kept-all : {X : Type 0} (g : Thread → X) → g th ≡ g (threadAt s t) → (u : ℕ) → g (threadAt (withThread s t th) u) ≡ g (threadAt s u)
@@ -224,18 +224,10 @@ module _ (s : Scheduler) (S : Steady s) (t : ℕ) (th : Thread) (small : t < 32)
 module _ (s : Scheduler) (S : Steady s) (p : Place) where
   -- who goes to the front
   abbrev best : ℕ
-  best = bestOf (λ t. keyAt p (threadAt s t)) (members (s .order))
-
-  pub best-of-line : best ≡ bestOf (priorityAt s) (lineAt s p)
-  unfolding keyAt lineAt
-  best-of-line = Bests.best-of-among (λ t. placedb p (threadAt s t)) (priorityAt s) (members (s .order))
+  best = bestOf (priorityAt s) (lineAt s p)
 
   best-stands : best < 32 → 0 < count best (lineAt s p)
-  best-stands l =
-      let e = best-of-line in
-      let c = Bests.best-stands (priorityAt s) (lineAt s p) (omega (arith, e, l)) in
-      let d = ap (λ (x : ℕ). count x (lineAt s p)) e in
-      omega (arith, c, d)
+  best-stands = Bests.best-stands (priorityAt s) (lineAt s p)
 
   best-placed : best < 32 → placedb p (threadAt s best) ≡ true
   unfolding oneIf
@@ -267,11 +259,11 @@ module _ (s : Scheduler) (S : Steady s) (p : Place) where
   same-placed u = same-count u ∙ S .placed u
 
   pub prioritised-steady : Steady (prioritisedAt s p)
-  unfolding prioritisedAt prioritised
+  unfolding prioritisedAt fronted
   prioritised-steady = order-steady s (S .sized) (S .fit) order same-placed
 
   any-line : (q : Place) → lineAt (prioritisedAt s p) q ≡ onlyIf (ltb best 32 && placedb q (threadAt s best)) best ++ without best (lineAt s q)
-  unfolding prioritisedAt prioritised lineAt
+  unfolding prioritisedAt fronted lineAt
   any-line q =
       order-line s (S .sized) (S .fit) order same-placed q
       ∙ Lists.filter-append (λ t. placedb q (threadAt s t)) (onlyIf (ltb best 32) best) (without best (members (s .order)))
@@ -279,11 +271,10 @@ module _ (s : Scheduler) (S : Steady s) (p : Place) where
 
   -- the place's own order: the first of the best priority goes to the front, and nothing else changes
   pub prioritised-here : lineAt (prioritisedAt s p) p ≡ prioritised (priorityAt s) (lineAt s p)
-  unfolding prioritised
+  unfolding prioritised fronted
   prioritised-here =
       any-line p
       ∙ ap (λ (b : Bool). onlyIf b best ++ without best (lineAt s p)) here
-      ∙ ap (λ (x : ℕ). onlyIf (ltb x 32) x ++ without x (lineAt s p)) best-of-line
     where
       here : (ltb best 32 && placedb p (threadAt s best)) ≡ ltb best 32
       here = by-test (ltb best 32)

@@ -13,11 +13,13 @@ use Rattle.lines.proofs.Laws.Logic.{by-test, never, and-left, and-right, and-in
 use Rattle.lines.proofs.Laws.Slots.{same-test}
 use Rattle.scheduler.specs.declared.thread.Thread.{Thread}
 use Rattle.scheduler.specs.declared.Scheduler.{Scheduler}
-use Rattle.scheduler.specs.Threads.{noThread, readyb, waitsb, pausedb, restsb, standsb}
+use Rattle.scheduler.specs.Threads.{uncreated, readyb, waitsb, pausedb, restsb, standsb}
 use Rattle.scheduler.specs.Orders.{threadAt, priorityAt, thresholdAt, runner}
+use Rattle.scheduler.specs.Choice.{bestReady}
 use Rattle.scheduler.specs.Sound.{limitsb, markFitb, suspensionFitb, ticksFitb, objectFitb, fitb, countedb, steadyb, runsb, Steady, Runs, soundb}
-use Rattle.scheduler.proofs.Laws.Threads.{none-at, none-ready, none-unmarked, fit-created, fit-low}
+use Rattle.scheduler.proofs.Laws.Threads.{none-at, none-ready, none-unmarked, fit-created}
 use Rattle.scheduler.proofs.Laws.States.{rest-not-paused, paused-made, paused-in, waits-in}
+use Rattle.scheduler.proofs.Laws.Choosing
 use Rattle.scheduler.proofs.Laws.Testing
 
 -- ---- one record, by its state
@@ -116,17 +118,13 @@ module _ (n limit : ℕ) (th : Thread) where
   unfolding countedb implies
   placed-other b s r = rw (s, r, and-true)
 
-none-threshold : noThread .threshold ≡ 32
-unfolding noThread
-none-threshold = refl
-
 -- ---- all of them
 module _ (s : Scheduler) where
   abbrev pub placed : ℕ → Bool
   placed t = placedFit (count t (members (s .order))) (thresholdAt s (runner s)) (threadAt s t)
 
   abbrev pub mayRun : Bool
-  mayRun = if ltb (runner s) 32 then (readyb (threadAt s (runner s)) && not (threadAt s (runner s) .marked)) else eqb (runner s) 32
+  mayRun = if ltb (runner s) 32 then (readyb (threadAt s (runner s)) && not (threadAt s (runner s) .marked)) else (eqb (runner s) 32 && eqb (bestReady s) 32)
 
   abbrev lined : Bool
   lined = cleanb (s .order) && below 32 (members (s .order))
@@ -137,23 +135,20 @@ module _ (s : Scheduler) where
   abbrev behind : ℕ → Bool
   behind t = implies (readyb (threadAt s t)) (leb (thresholdAt s (runner s)) (priorityAt s t))
 
-  -- a ready thread's priority is below 32
-  low : Steady s → (t : ℕ) → readyb (threadAt s t) ≡ true → priorityAt s t < 32
-  low S t h =
-      by-test (ltb t 32)
-      (λ w. fit-low (threadAt s t) (S .fit t (ltb-true t 32 w)))
-      (λ w. never h (ap readyb (none-at s t (S .sized) (ltb-false t 32 w)) ∙ none-ready))
-
-  chosen : {b : Bool} → ltb (runner s) 32 ≡ b → mayRun ≡ (if b then (readyb (threadAt s (runner s)) && not (threadAt s (runner s) .marked)) else eqb (runner s) 32)
-  chosen w = ap (λ (b : Bool). if b then (readyb (threadAt s (runner s)) && not (threadAt s (runner s) .marked)) else eqb (runner s) 32) w
+  chosen : {b : Bool} → ltb (runner s) 32 ≡ b → mayRun ≡ (if b then (readyb (threadAt s (runner s)) && not (threadAt s (runner s) .marked)) else (eqb (runner s) 32 && eqb (bestReady s) 32))
+  chosen w = ap (λ (b : Bool). if b then (readyb (threadAt s (runner s)) && not (threadAt s (runner s) .marked)) else (eqb (runner s) 32 && eqb (bestReady s) 32)) w
 
   module _ (z : length (s .threads) ≡ 32) where
     -- whose turn it is, of sound tables
-    runs-on : Runs s → mayRun ≡ true
-    runs-on R =
+    runs-on : runsb s ≡ true → mayRun ≡ true
+    unfolding runsb
+    runs-on e =
+        let r = readyb (threadAt s (runner s)) && not (threadAt s (runner s) .marked) in
+        let l = leb (thresholdAt s (runner s)) (priorityAt s (bestReady s)) in
+        let none = eqb (runner s) 32 && eqb (bestReady s) 32 in
         by-test (ltb (runner s) 32)
-        (λ w. chosen w ∙ and-in (readyb (threadAt s (runner s))) (not (threadAt s (runner s) .marked)) (R .ready (ltb-true (runner s) 32 w)) (ap not (R .unmarked)))
-        (λ w. chosen w ∙ eq-eqb (runner s) 32 (let l = ltb-false (runner s) 32 w in let k = R .known in omega (arith, l, k)))
+        (λ w. chosen w ∙ and-left r l (sym (ap (λ (b : Bool). if b then (r && l) else none) w) ∙ e))
+        (λ w. chosen w ∙ sym (ap (λ (b : Bool). if b then (r && l) else none) w) ∙ e)
 
     parts : soundb s ≡ true → (lined && mayRun && allBelow 32 placed) ≡ true
     unfolding soundb steadyb
@@ -161,7 +156,7 @@ module _ (s : Scheduler) where
         let R = Testing.tested s z e .runs in
         let t = and-left (steadyb s) (runsb s) e in
         and-in (lined && mayRun) (allBelow 32 placed)
-        (and-in lined mayRun (and-left lined (allBelow 32 counted) t) (runs-on R))
+        (and-in lined mayRun (and-left lined (allBelow 32 counted) t) (runs-on (and-right (steadyb s) (runsb s) e)))
         (all-in 32 placed (λ k l. and-in (counted k) (behind k)
         (all-at 32 counted (and-right lined (allBelow 32 counted) t) k l)
         (implies-in (readyb (threadAt s k)) (leb (thresholdAt s (runner s)) (priorityAt s k)) (λ h. le-leb (thresholdAt s (runner s)) (priorityAt s k) (R .best k h)))))
@@ -199,9 +194,11 @@ module _ (s : Scheduler) where
             best = best;
             unmarked = not-true (threadAt s (runner s) .marked) (and-right (readyb (threadAt s (runner s))) (not (threadAt s (runner s) .marked)) a);
           })
-          (λ w. let n = eqb-true (runner s) 32 (sym (chosen w) ∙ turn) in
+          (λ w. let a = sym (chosen w) ∙ turn in
+          let n = eqb-true (runner s) 32 (and-left (eqb (runner s) 32) (eqb (bestReady s) 32) a) in
+          let h = eqb-true (bestReady s) 32 (and-right (eqb (runner s) 32) (eqb (bestReady s) 32) a) in
           let none = none-at s (runner s) z (omega (arith, n)) in
-          let idle : (t : ℕ) → readyb (threadAt s t) ≡ false = λ t. by-test (readyb (threadAt s t)) (λ r. absurd (let b = best t r in let p = low steady t r in let u = ap (λ (th : Thread). th .threshold) none in omega (arith, b, p, u, none-threshold))) (λ r. r) in
+          let idle : (t : ℕ) → readyb (threadAt s t) ≡ false = λ t. by-test (readyb (threadAt s t)) (λ r. absurd (let b = Choosing.best-some s steady t r in omega (arith, b, h))) (λ r. r) in
           record {
             known = omega (arith, n);
             ready = λ l. absurd (omega (arith, n, l));

@@ -13,7 +13,7 @@ use Rattle.lines.proofs.Laws.Lists
 use Rattle.scheduler.specs.declared.thread.Thread.{Thread}
 use Rattle.scheduler.specs.declared.thread.Place.{Place}
 use Rattle.scheduler.specs.declared.Scheduler.{Scheduler}
-use Rattle.scheduler.specs.Threads.{noThread, uncreated, readyb, sleepsb, waitsb, pausedb, placedb, inState, atRest, awake, withSuspension, created}
+use Rattle.scheduler.specs.Threads.{uncreated, readyb, sleepsb, waitsb, pausedb, placedb, inState, atRest, awake, withSuspension, created}
 use Rattle.scheduler.specs.Orders.{threadAt, lineAt, firstAt, withThread, withOrder, moved}
 use Rattle.scheduler.specs.Changes.{withLevels, priorityChanged}
 use Rattle.scheduler.specs.Sound.{limitsb, markFitb, suspensionFitb, ticksFitb, objectFitb, zerob, fitb, Steady}
@@ -113,7 +113,7 @@ fit-suspension b th made fit h =
 
 -- ---- who is created, and who stands, is in the table
 pub created-small : (s : Scheduler) → Steady s → (t : ℕ) → threadAt s t .created ≡ true → t < 32
-unfolding noThread
+unfolding uncreated
 created-small s S t made =
     by-test (ltb t 32)
     (λ w. ltb-true t 32 w)

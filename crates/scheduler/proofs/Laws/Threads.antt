@@ -4,18 +4,20 @@ use mathlib.Core.List.{List, map}
 use mathlib.Core.Bool.{Bool, true, false, _&&_, _||_, not}
 use Prim.Native.Nat.{ℕ, _≤_, _<_}
 use native.Mathlib.Omega.{arith}
-use lib.ListN.{length, getD, length-map, List·getD-eq-default, List·getD-map}
+use lib.ListN.{length, length-map, List·getD-eq-default}
 use lib.Dec.{eqb, ltb, leb}
 use borrow.Author.Tests.{eqb-true, ltb-true, leb-true, lt-ltb, le-leb, not-true}
 use Rattle.lines.specs.Logic.{if_then_else_}
-use Rattle.lines.specs.Lines.{keyIn}
 use Rattle.lines.proofs.Laws.Logic.{by-test, never, and-left, and-right, and-in, or-left, implies-out, implies-in}
 use Rattle.scheduler.specs.declared.thread.Thread.{Thread}
 use Rattle.scheduler.specs.declared.thread.Place.{Place}
+use Rattle.scheduler.specs.declared.thread.Among.{Among}
+use Rattle.scheduler.specs.declared.thread.Among.the-variants.{Ready, Marked, At}
 use Rattle.scheduler.specs.declared.Scheduler.{Scheduler}
-use Rattle.scheduler.specs.Threads.{noThread, readyb, sleepsb, waitsb, pausedb, markedb, standsb, numberOf, placedb}
-use Rattle.scheduler.specs.Orders.{threadAt, keyAt, keysAt}
-use Rattle.scheduler.specs.Choice.{wantedb, withMark}
+use Rattle.scheduler.specs.Threads.{uncreated, readyb, sleepsb, waitsb, pausedb, markedb, standsb, numberOf, placedb}
+use Rattle.scheduler.specs.Orders.{threadAt}
+use Rattle.scheduler.specs.Choice.{withMark}
+use Rattle.scheduler.specs.Loops.{wantedb}
 use Rattle.scheduler.specs.Changes.{withLevels}
 use Rattle.scheduler.specs.Sound.{limitsb, markFitb, suspensionFitb, ticksFitb, objectFitb, zerob, fitb}
 
@@ -24,34 +26,31 @@ pub length-mapped : {A B : Type 0} (f : A → B) (l : List A) (n : ℕ) → leng
 length-mapped f l n p = sym (length-map l f) ∙ p
 
 -- ---- past the table
-pub none-at : (s : Scheduler) (t : ℕ) → length (s .threads) ≡ 32 → 32 ≤ t → threadAt s t ≡ noThread
+pub none-at : (s : Scheduler) (t : ℕ) → length (s .threads) ≡ 32 → 32 ≤ t → threadAt s t ≡ uncreated
 unfolding threadAt
-none-at s t e h = List·getD-eq-default (s .threads) noThread (omega arith)
+none-at s t e h = List·getD-eq-default (s .threads) uncreated (omega arith)
 
-pub none-stands : standsb noThread ≡ false
-unfolding standsb readyb waitsb noThread
+pub none-stands : standsb uncreated ≡ false
+unfolding standsb readyb waitsb uncreated
 none-stands = refl
 
-pub none-ready : readyb noThread ≡ false
-unfolding readyb noThread
+pub none-ready : readyb uncreated ≡ false
+unfolding readyb uncreated
 none-ready = refl
 
-pub none-unmarked : noThread .marked ≡ false
-unfolding noThread
+pub none-unmarked : uncreated .marked ≡ false
+unfolding uncreated
 none-unmarked = refl
 
-pub none-placed : (p : Place) → placedb p noThread ≡ false
-unfolding placedb standsb readyb waitsb noThread
+pub none-placed : (p : Place) → placedb p uncreated ≡ false
+unfolding placedb standsb readyb waitsb uncreated
 none-placed p = refl
 
-pub none-wanted : (b : Bool) → wantedb b noThread ≡ false
-unfolding wantedb markedb readyb noThread
-none-wanted true = refl
-none-wanted false = refl
-
-pub none-key : (p : Place) → keyAt p noThread ≡ 255
-unfolding keyAt placedb standsb readyb waitsb noThread
-none-key p = refl
+pub none-wanted : (a : Among) → wantedb a uncreated ≡ false
+unfolding wantedb markedb readyb uncreated
+none-wanted Ready = refl
+none-wanted Marked = refl
+none-wanted (At p) = none-placed p
 
 -- ---- standing
 pub ready-stands : (th : Thread) → readyb th ≡ true → standsb th ≡ true
@@ -85,12 +84,6 @@ module _ (p : Place) (th : Thread) (h : placedb p th ≡ true) where
 
   pub other-place : (q : Place) → (q ≡ p → ⊥) → placedb q th ≡ false
   other-place q n = by-test (placedb q th) (λ e. absurd (n (sym (one-place q e)))) (λ e. e)
-
--- ---- keys
--- a key that is read from the table of keys
-pub keys-at : (s : Scheduler) (p : Place) (t : ℕ) → keyIn (keysAt s p) t ≡ keyAt p (threadAt s t)
-unfolding keysAt threadAt
-keys-at s p t = ap (getD (map (keyAt p) (s .threads)) t) (sym (none-key p)) ∙ List·getD-map (keyAt p) (s .threads) t noThread
 
 -- ---- fit records, created or not
 pub fit-created : (th : Thread) → th .created ≡ true → fitb th ≡ (limitsb th && markFitb th && suspensionFitb th && ticksFitb th && objectFitb th)

@@ -4,7 +4,8 @@ use Prim.Native.Nat.{ℕ, _<_, _≤_, _-_}
 use native.Mathlib.Omega.{arith}
 use borrow.Author.Needs.{needs}
 use lib.ListN.{length, take, drop, getD, length-take, length-drop}
-use Rattle.lines.specs.Lines.{members, tally}
+use Rattle.lines.specs.Lines.{members}
+use Rattle.lines.specs.Loops.{tally}
 use Rattle.lines.proofs.Laws.Lines.{members-take, length-members, back, back-start}
 use Rattle.lines.proofs.Laws.Tallies.{slot-small, tally-small}
 use Rattle.lines.proofs.Line.tally.Statement.{statement}
@@ -26,7 +27,7 @@ loop-holds c =
     let n : c .size .result ≤ 32 = omega (arith, z, w) in
     (omega arith, n, o, rw (back-start (c .size .result) (a .self .ids) (omega (arith, n, o))))
 
-array-read-counts : tie.Need-array-read-counts Inv-loop μ-loop
+array-read-counts : tie.Need-array-read-counts-2 Inv-loop μ-loop
 array-read-counts c =
     let a = c .before .before .before .before .before .args in
     let l = c .before .before .loop in

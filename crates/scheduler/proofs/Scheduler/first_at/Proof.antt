@@ -8,7 +8,7 @@ use Rattle.lines.specs.Lists.{filter, first, firstWith}
 use Rattle.lines.specs.Lines.{members}
 use Rattle.lines.proofs.Laws.Lists.{getD-any}
 use Rattle.lines.proofs.Laws.Lines.{length-members, members-take, back-start}
-use Rattle.scheduler.specs.Threads.{noThread, placedb}
+use Rattle.scheduler.specs.Threads.{uncreated, placedb}
 use Rattle.scheduler.specs.Orders.{threadAt, lineAt, firstAt}
 use Rattle.scheduler.proofs.Laws.Threads.{length-mapped, none-at, none-placed}
 use Rattle.scheduler.proofs.Laws.Loops.{first-found, first-passed}
@@ -32,39 +32,39 @@ loop-holds c =
 returns : tie.Need-returns Inv-loop μ-loop
 unfolding firstAt lineAt threadAt firstWith first
 returns c =
-    let a = c .before .before .before .before .before .before .before .before .before .args in
-    let l = c .before .before .before .before .before .loop in
+    let a = c .before .before .before .before .before .before .before .before .before .before .args in
+    let l = c .before .before .before .before .before .before .loop in
     let f : ℕ → Bool = λ t. placedb (a .p) (threadAt (a .t1) t) in
-    let n = c .before .before .before .before .before .before .size .result in
+    let n = c .before .before .before .before .before .before .before .size .result in
     let m = length-take n (a .t1 .order .ids) in
     let e : length (a .t1 .threads) ≡ 32 = search length-mapped in
     let x = getD (a .t1 .order .ids) (l .i) 0 in
-    let h = getD-any (a .t1 .threads) x _ noThread (omega arith) in
+    let h = getD-any (a .t1 .threads) x _ uncreated (omega arith) in
     let y : f x ≡ true = sym (ap (placedb (a .p)) h) ∙ sym (c .before .is-at .ensures) ∙ c .if2 .taken in
     let g = first-found f n (l .i) (a .t1 .order .ids) (omega (arith, m)) y in
-    let k : take n (a .t1 .order .ids) ≡ members (a .t1 .order) = ap (λ (j : ℕ). take j (a .t1 .order .ids)) (c .before .before .before .before .before .before .size .ensures) ∙ members-take (a .t1 .order) in
+    let k : take n (a .t1 .order .ids) ≡ members (a .t1 .order) = ap (λ (j : ℕ). take j (a .t1 .order .ids)) (c .before .before .before .before .before .before .before .size .ensures) ∙ members-take (a .t1 .order) in
     sym (sym (ap (firstWith f) k) ∙ l .inv .3 ∙ g)
 
 loop-again : tie.Need-loop-again Inv-loop μ-loop
 unfolding threadAt
 loop-again c =
-    let a = c .before .before .before .before .before .before .before .before .before .args in
-    let l = c .before .before .before .before .before .loop in
+    let a = c .before .before .before .before .before .before .before .before .before .before .args in
+    let l = c .before .before .before .before .before .before .loop in
     let f : ℕ → Bool = λ t. placedb (a .p) (threadAt (a .t1) t) in
-    let n = c .before .before .before .before .before .before .size .result in
+    let n = c .before .before .before .before .before .before .before .size .result in
     let m = length-take n (a .t1 .order .ids) in
     let e : length (a .t1 .threads) ≡ 32 = search length-mapped in
     let x = getD (a .t1 .order .ids) (l .i) 0 in
-    let h = getD-any (a .t1 .threads) x _ noThread (omega arith) in
+    let h = getD-any (a .t1 .threads) x _ uncreated (omega arith) in
     let y : f x ≡ false = sym (ap (placedb (a .p)) h) ∙ sym (c .before .is-at .ensures) ∙ c .if2 .left in
     (omega arith, omega arith, l .inv .2, l .inv .3 ∙ first-passed f n (l .i) (a .t1 .order .ids) (omega (arith, m)) y)
 
 loop-again-2 : tie.Need-loop-again-2 Inv-loop μ-loop
 loop-again-2 c =
-    let a = c .before .before .before .before .before .before .args in
-    let l = c .before .before .loop in
+    let a = c .before .before .before .before .before .before .before .args in
+    let l = c .before .before .before .loop in
     let f : ℕ → Bool = λ t. placedb (a .p) (threadAt (a .t1) t) in
-    let n = c .before .before .before .size .result in
+    let n = c .before .before .before .before .size .result in
     let m = length-take n (a .t1 .order .ids) in
     let e : length (a .t1 .threads) ≡ 32 = search length-mapped in
     let x = getD (a .t1 .order .ids) (l .i) 0 in

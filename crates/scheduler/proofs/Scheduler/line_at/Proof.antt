@@ -8,7 +8,7 @@ use Rattle.lines.specs.Lists.{filter}
 use Rattle.lines.specs.Lines.{members, lineOf, pad}
 use Rattle.lines.proofs.Laws.Lists.{getD-any, length-part}
 use Rattle.lines.proofs.Laws.Lines.{length-members, members-take, one-more, members-short, kept-one, left-one}
-use Rattle.scheduler.specs.Threads.{noThread, placedb}
+use Rattle.scheduler.specs.Threads.{uncreated, placedb}
 use Rattle.lines.specs.declared.Line.{Line}
 use Rattle.scheduler.specs.Orders.{threadAt, lineAt}
 use Rattle.scheduler.proofs.Laws.Threads.{length-mapped, none-at, none-placed}
@@ -33,14 +33,14 @@ loop-holds c =
 loop-again : tie.Need-loop-again Inv-loop μ-loop
 unfolding threadAt
 loop-again c =
-    let a = c .before .before .before .before .before .before .before .before .before .args in
-    let l = c .before .before .before .before .before .loop in
+    let a = c .before .before .before .before .before .before .before .before .before .before .args in
+    let l = c .before .before .before .before .before .before .loop in
     let f : ℕ → Bool = λ t. placedb (a .p) (threadAt (a .t1) t) in
     let o : Line = record { ids = l .out; len = l .len } in
     let e : length (a .t1 .threads) ≡ 32 = search length-mapped in
     let x = getD (a .t1 .order .ids) (l .i) 0 in
     let q : l .i < length (a .t1 .order .ids) = omega arith in
-    let h = getD-any (a .t1 .threads) x _ noThread (omega arith) in
+    let h = getD-any (a .t1 .threads) x _ uncreated (omega arith) in
     let y : f x ≡ true = sym (ap (placedb (a .p)) h) ∙ sym (c .before .is-at .ensures) ∙ c .if2 .taken in
     let m = one-more o (filter f (take (l .i) (a .t1 .order .ids))) x (l .inv .5) (omega arith) in
     (omega arith, omega arith, l .inv .2, simp length-set (l .inv .3), omega arith, m ∙ ap lineOf (sym (kept-one f (l .i) (a .t1 .order .ids) q y)))
@@ -48,20 +48,20 @@ loop-again c =
 loop-again-2 : tie.Need-loop-again-2 Inv-loop μ-loop
 unfolding threadAt
 loop-again-2 c =
-    let a = c .before .before .before .before .before .before .before .before .before .args in
-    let l = c .before .before .before .before .before .loop in
+    let a = c .before .before .before .before .before .before .before .before .before .before .args in
+    let l = c .before .before .before .before .before .before .loop in
     let f : ℕ → Bool = λ t. placedb (a .p) (threadAt (a .t1) t) in
     let e : length (a .t1 .threads) ≡ 32 = search length-mapped in
     let x = getD (a .t1 .order .ids) (l .i) 0 in
     let q : l .i < length (a .t1 .order .ids) = omega arith in
-    let h = getD-any (a .t1 .threads) x _ noThread (omega arith) in
+    let h = getD-any (a .t1 .threads) x _ uncreated (omega arith) in
     let y : f x ≡ false = sym (ap (placedb (a .p)) h) ∙ sym (c .before .is-at .ensures) ∙ c .if2 .left in
     (omega arith, omega arith, l .inv .2, l .inv .3, omega arith, l .inv .5 ∙ ap lineOf (sym (left-one f (l .i) (a .t1 .order .ids) q y)))
 
 loop-again-3 : tie.Need-loop-again-3 Inv-loop μ-loop
 loop-again-3 c =
-    let a = c .before .before .before .before .before .before .args in
-    let l = c .before .before .loop in
+    let a = c .before .before .before .before .before .before .before .args in
+    let l = c .before .before .before .loop in
     let f : ℕ → Bool = λ t. placedb (a .p) (threadAt (a .t1) t) in
     let e : length (a .t1 .threads) ≡ 32 = search length-mapped in
     let x = getD (a .t1 .order .ids) (l .i) 0 in

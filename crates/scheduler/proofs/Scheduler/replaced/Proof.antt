@@ -6,7 +6,7 @@ use borrow.Author.Needs.{needs}
 use lib.ListN.{length}
 use Rattle.lines.proofs.Laws.Lists.{getD-any}
 use Rattle.scheduler.specs.declared.thread.Thread.{Thread}
-use Rattle.scheduler.specs.Threads.{noThread}
+use Rattle.scheduler.specs.Threads.{uncreated}
 use Rattle.scheduler.specs.Orders.{threadAt, withThread}
 use Rattle.scheduler.specs.Choice.{withMark, replaced}
 use Rattle.scheduler.proofs.Laws.Threads.{length-mapped}
@@ -20,7 +20,7 @@ returns c =
     let a = c .before .before .before .before .before .args in
     let e : length (a .t1 .threads) ≡ 32 = search length-mapped in
     let h : a .t1 .running .0 < length (a .t1 .threads) = omega arith in
-    ap (λ (th : Thread). withThread (a .t1) (a .t1 .running .0) (withMark (ltb (th .threshold) (th .priority)) th)) (getD-any (a .t1 .threads) (a .t1 .running .0) _ noThread h)
+    ap (λ (th : Thread). withThread (a .t1) (a .t1 .running .0) (withMark (ltb (th .threshold) (th .priority)) th)) (getD-any (a .t1 .threads) (a .t1 .running .0) _ uncreated h)
 
 returns-2 : tie.Need-returns-2
 unfolding replaced

@@ -7,5 +7,5 @@ pub awake-spec : {M : Type 1} → statement M
 unfolding awake inState
 awake-spec =
     tie.close
-    (tie.spec (λ c κs. search needs) (λ c κs. search needs) (λ c. rw (c .before .if1 .taken) (c .in-state .ensures))
-    (λ c. rw (c .before .if1 .left) (c .in-state2 .ensures)))
+    (tie.spec (λ c κs. search needs) (λ c κs. search needs) (λ c. rw (c .before .if1 .taken) (c .at-rest .ensures))
+    (λ c. rw (c .before .if1 .left) (c .at-rest2 .ensures)))

@@ -1,4 +1,5 @@
--- "Set OR joins flags and then tests every waiter, in order, against those same flags": who is woken, and what is cleared afterwards.
+-- What the loop of a set finds in tables of requests and options. No rule stands on it: the kernel says whom a set wakes over the tables of
+-- threads, and that both are the same is proved.
 use mathlib.Core.List.{List}
 use mathlib.Core.Bool.{Bool}
 use Prim.Native.Nat.{ℕ}
