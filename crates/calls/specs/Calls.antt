@@ -1,47 +1,59 @@
--- "Calls": numbers, callers and arguments.
+-- The calls: numbers, callers and arguments (rule 2.1).
 use Prim.Native.Nat.{ℕ, min}
 use lib.Dec.{eqb, ltb}
 use Rattle.lines.specs.Logic.{if_then_else_}
-use Rattle.lines.specs.declared.ThreadId.{ThreadId}
-use Rattle.objects.specs.declared.semaphore.SemaphoreId.{SemaphoreId}
-use Rattle.objects.specs.declared.queue.QueueId.{QueueId}
-use Rattle.objects.specs.declared.group.GroupId.{GroupId}
-use Rattle.blocks.specs.declared.pool.PoolId.{PoolId}
-use Rattle.calls.specs.declared.call.Call.the-variants.{ThreadCreate, ThreadDelete, ThreadResume, ThreadSuspend, ThreadTerminate, ThreadReset, ThreadFinish, ThreadRelinquish, ThreadSleep, ThreadWaitAbort, ThreadPriorityChange, ThreadPreemptionChange, TimeGet, TimeSet, Tick, SemaphoreCreate, SemaphoreDelete, SemaphoreGet, SemaphorePut, SemaphoreCeilingPut, SemaphorePrioritize, QueueCreate, QueueDelete, QueueSend, QueueFrontSend, QueueReceive, QueueFlush, QueuePrioritize, EventFlagsCreate, EventFlagsDelete, EventFlagsSet, EventFlagsGet, BlockPoolCreate, BlockPoolDelete, BlockAllocate, BlockRelease, BlockPoolPrioritize, ThreadStateRead, ThreadWordsRead}
+use Rattle.numbers.specs.Numbers.{slots, threadNumber, semaphoreNumber, queueNumber, groupNumber, poolNumber}
+use Rattle.calls.specs.declared.call.Call.the-variants.{
+  ThreadCreate,
+  ThreadDelete,
+  ThreadResume,
+  ThreadSuspend,
+  ThreadTerminate,
+  ThreadReset,
+  ThreadFinish,
+  ThreadRelinquish,
+  ThreadSleep,
+  ThreadWaitAbort,
+  ThreadPriorityChange,
+  ThreadPreemptionChange,
+  TimeGet,
+  TimeSet,
+  Tick,
+  SemaphoreCreate,
+  SemaphoreDelete,
+  SemaphoreGet,
+  SemaphorePut,
+  SemaphoreCeilingPut,
+  SemaphorePrioritize,
+  QueueCreate,
+  QueueDelete,
+  QueueSend,
+  QueueFrontSend,
+  QueueReceive,
+  QueueFlush,
+  QueuePrioritize,
+  EventFlagsCreate,
+  EventFlagsDelete,
+  EventFlagsSet,
+  EventFlagsGet,
+  BlockPoolCreate,
+  BlockPoolDelete,
+  BlockAllocate,
+  BlockRelease,
+  BlockPoolPrioritize,
+  ThreadStateRead,
+  ThreadWordsRead,
+}
+use Rattle.calls.specs.Callers.{thread}
+use Rattle.calls.specs.declared.call.Request.{Request}
 use Rattle.calls.specs.declared.call.Decoded.{Decoded}
 use Rattle.calls.specs.declared.call.Decoded.the-variants.{Known, Unknown}
 
--- the callers
-abbrev pub startup : ℕ
-startup = 0
-
-abbrev pub interrupt : ℕ
-interrupt = 1
-
-abbrev pub thread : ℕ
-thread = 2
-
--- numbers past the last stand for nothing there
-abbrev pub threadNumber : ℕ → ThreadId
-threadNumber a = record { 0 = min a 32 }
-
-abbrev pub semaphoreNumber : ℕ → SemaphoreId
-semaphoreNumber a = record { 0 = min a 16 }
-
-abbrev pub queueNumber : ℕ → QueueId
-queueNumber a = record { 0 = min a 8 }
-
-abbrev pub groupNumber : ℕ → GroupId
-groupNumber a = record { 0 = min a 8 }
-
-abbrev pub poolNumber : ℕ → PoolId
-poolNumber a = record { 0 = min a 4 }
-
--- blocks are numbered from 0, and no pool has more than 64
+-- rules 1.5, 3.15: blocks are numbered from 0 and no pool has more than 64, so every number from 64 on is taken for 64
 abbrev pub blockNumber : ℕ → ℕ
-blockNumber b = min b 64
+blockNumber b = min b slots
 
--- the call of each number
+-- rule 2.1: the call of each number; arguments that it does not use are left out
 unfoldable pub knownCall : ℕ → ℕ → ℕ → ℕ → ℕ → Decoded
 knownCall n a b c d =
     if eqb n 1 then Known (ThreadCreate (threadNumber a) b c d)
@@ -85,6 +97,6 @@ knownCall n a b c d =
     else if eqb n 39 then Known (ThreadWordsRead (threadNumber a))
     else Unknown
 
--- a call record is either a known call or a refusal: an unknown number or caller kind
-unfoldable pub decoded : ℕ → ℕ → ℕ → ℕ → ℕ → ℕ → Decoded
-decoded n caller a b c d = if ltb thread caller then Unknown else knownCall n a b c d
+-- rules 2.1, 2.6: a request is for a known call, or it is unknown for its number or its caller
+unfoldable pub decoded : Request → Decoded
+decoded q = if ltb thread (q .caller) then Unknown else knownCall (q .number) (q .a) (q .b) (q .c) (q .d)

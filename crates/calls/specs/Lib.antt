@@ -1,5 +1,6 @@
 pub mod Statuses
 pub mod Held
+pub mod Callers
 pub mod Calls
-pub mod Refusals
+pub mod Chains
 pub mod Messages

@@ -1,18 +1,36 @@
 // A call, decoded from its number and arguments.
 ghost use mathlib.Core.Path.{_≡_};
 ghost use Prim.Native.Nat.{min};
+ghost use Rattle.numbers.specs.Numbers.{slots};
 ghost use Rattle.calls.specs.Calls.{decoded};
-use blocks::pool::PoolId;
-use lines::ThreadId;
-use objects::group::GroupId;
-use objects::queue::QueueId;
-use objects::semaphore::SemaphoreId;
+use numbers::GroupId;
+use numbers::NO_BLOCK;
+use numbers::PoolId;
+use numbers::QueueId;
+use numbers::SLOTS;
+use numbers::SemaphoreId;
+use numbers::ThreadId;
+use numbers::group_id;
+use numbers::pool_id;
+use numbers::queue_id;
+use numbers::semaphore_id;
+use numbers::thread_id;
 
 pub const STARTUP: u32 = 0;
 
 pub const INTERRUPT: u32 = 1;
 
 pub const THREAD: u32 = 2;
+
+// What a caller asks: the number of a call, the caller's kind and four arguments.
+pub struct Request {
+    pub number: u32,
+    pub caller: u32,
+    pub a: u32,
+    pub b: u32,
+    pub c: u32,
+    pub d: u32,
+}
 
 // A known call with its arguments, by ThreadX's service names.
 pub enum Call {
@@ -57,60 +75,17 @@ pub enum Call {
     ThreadWordsRead(ThreadId),
 }
 
-// A call record is either a known call or a refusal.
+// A request is either a known call or a refusal.
 pub enum Decoded {
     Known(Call),
     Unknown,
 }
 
-// A thread's number; every number past the last stands for nobody.
-pub fn thread_id(a: u32) -> ThreadId
-    ensures { λ r. ⌜ r .0 ≡ min a 32 ⌝ }
-{
-    if a < 32 {
-        ThreadId(a as u8)
-    } else {
-        ThreadId(32)
-    }
-}
-
-// A semaphore's number; every number past the last stands for none.
-pub fn semaphore_id(a: u32) -> SemaphoreId
-    ensures { λ r. ⌜ r .0 ≡ min a 16 ⌝ }
-{
-    if a < 16 {
-        SemaphoreId(a as u8)
-    } else {
-        SemaphoreId(16)
-    }
-}
-
-// A queue's number; every number past the last stands for none.
-pub fn queue_id(a: u32) -> QueueId
-    ensures { λ r. ⌜ r .0 ≡ min a 8 ⌝ }
-{
-    if a < 8 { QueueId(a as u8) } else { QueueId(8) }
-}
-
-// A group's number; every number past the last stands for none.
-pub fn group_id(a: u32) -> GroupId
-    ensures { λ r. ⌜ r .0 ≡ min a 8 ⌝ }
-{
-    if a < 8 { GroupId(a as u8) } else { GroupId(8) }
-}
-
-// A pool's number; every number past the last stands for none.
-pub fn pool_id(a: u32) -> PoolId
-    ensures { λ r. ⌜ r .0 ≡ min a 4 ⌝ }
-{
-    if a < 4 { PoolId(a as u8) } else { PoolId(4) }
-}
-
 // A block's number as a byte; every number past the last block that a pool can have stands for none.
 pub fn block_number(b: u32) -> u8
-    ensures { λ r. ⌜ r ≡ min b 64 ⌝ }
+    ensures { λ r. ⌜ r ≡ min b slots ⌝ }
 {
-    if b < 64 { b as u8 } else { 64 }
+    if b < SLOTS as u32 { b as u8 } else { NO_BLOCK }
 }
 
 // A request's option as a byte; every option past the last stands for the one behind it.
@@ -120,13 +95,18 @@ pub fn option_of(option: u32) -> u8
     if option < 4 { option as u8 } else { 4 }
 }
 
-// The call of a number, a caller kind and four arguments.
-pub fn decode(number: u32, caller: u32, a: u32, b: u32, c: u32, d: u32) -> Decoded
-    ensures { λ r. ⌜ r ≡ decoded number caller a b c d ⌝ }
+// The call that a request is for.
+pub fn decode(request: Request) -> Decoded
+    ensures { λ r. ⌜ r ≡ decoded request ⌝ }
 {
-    if THREAD < caller {
+    if THREAD < request.caller {
         return Decoded::Unknown;
     }
+    let number = request.number;
+    let a = request.a;
+    let b = request.b;
+    let c = request.c;
+    let d = request.d;
     let t = thread_id(a);
     let s = semaphore_id(a);
     let q = queue_id(a);

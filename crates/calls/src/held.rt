@@ -1,15 +1,15 @@
 // What a thread holds beside its scheduling record: the status and words that its last wait left it, and what it waits for.
 ghost use mathlib.Core.Path.{_≡_};
-ghost use Rattle.calls.specs.Held.{holding, sending, requesting};
+ghost use Rattle.calls.specs.Held.{holding, sending, requesting, heldWords, messageOf};
 use super::status::WAITING;
 
-// `sending`, `front` and `message` are a waiting sender's, `request` and `option` those of a thread that waits for flags. The bytes stand
-// behind the words, so that a record is copied by words throughout.
+// `words` are those that the last wait left or, of a waiting sender, its message: no thread has both. `sending` and `front` are a waiting
+// sender's, `request` and `option` those of a thread that waits for flags. The bytes stand behind the words, so that a record is copied by
+// words throughout.
 pub struct Held {
     pub status: u32,
     pub request: u32,
     pub words: [u32; 16],
-    pub message: [u32; 16],
     pub sending: bool,
     pub front: bool,
     pub option: u8,
@@ -27,7 +27,6 @@ impl Held {
             front: false,
             request: 0,
             option: 0,
-            message: [0; 16],
         }
     }
 
@@ -37,12 +36,11 @@ impl Held {
     {
         Held {
             status: WAITING,
-            words: [0; 16],
+            words: message,
             sending: true,
             front,
             request: 0,
             option: 0,
-            message,
         }
     }
 
@@ -57,7 +55,20 @@ impl Held {
             front: false,
             request,
             option,
-            message: [0; 16],
         }
+    }
+
+    // The words that the last wait left: zero while the thread waits as a sender.
+    pub fn held_words(self) -> [u32; 16]
+        ensures { λ r. ⌜ r ≡ heldWords self ⌝ }
+    {
+        if self.sending { [0; 16] } else { self.words }
+    }
+
+    // The message of a waiting sender, zero words of any other thread.
+    pub fn message(self) -> [u32; 16]
+        ensures { λ r. ⌜ r ≡ messageOf self ⌝ }
+    {
+        if self.sending { self.words } else { [0; 16] }
     }
 }

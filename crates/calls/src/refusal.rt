@@ -1,7 +1,8 @@
-// For each call the first reason that refuses it, in the order of the papers' table; 0 where there is none.
+// For each call the first reason that refuses it, in the order of the table of refusals; 0 where there is none.
 ghost use mathlib.Core.Path.{_≡_};
-ghost use Rattle.calls.specs.Refusals.{unless, firstOf, createRefusal, deleteRefusal, resumeRefusal, suspendRefusal, terminateRefusal, resetRefusal, threadOnlyRefusal, abortRefusal, priorityRefusal, preemptionRefusal, tickRefusal, readRefusal, semaphoreCreateRefusal, semaphoreDeleteRefusal, semaphoreGetRefusal, semaphoreRefusal, ceilingRefusal, queueCreateRefusal, queueDeleteRefusal, sendRefusal, receiveRefusal, queueRefusal, groupCreateRefusal, groupDeleteRefusal, setRefusal, getRefusal, poolCreateRefusal, poolDeleteRefusal, allocateRefusal, releaseRefusal, poolRefusal};
+ghost use Rattle.calls.specs.Chains.{unless, firstOf, createRefusal, deleteRefusal, resumeRefusal, suspendRefusal, terminateRefusal, resetRefusal, threadOnlyRefusal, abortRefusal, priorityRefusal, preemptionRefusal, tickRefusal, readRefusal, semaphoreCreateRefusal, semaphoreDeleteRefusal, semaphoreGetRefusal, semaphoreRefusal, ceilingRefusal, queueCreateRefusal, queueDeleteRefusal, sendRefusal, receiveRefusal, queueRefusal, groupCreateRefusal, groupDeleteRefusal, setRefusal, getRefusal, poolCreateRefusal, poolDeleteRefusal, allocateRefusal, releaseRefusal, poolRefusal};
 use super::call::INTERRUPT;
+use super::call::STARTUP;
 use super::call::THREAD;
 use super::call::option_of;
 use super::status::CALLER_ERROR;
@@ -30,16 +31,16 @@ use super::status::THRESH_ERROR;
 use super::status::WAIT_ABORT_ERROR;
 use super::status::WAIT_ERROR;
 use blocks::pool::Pool;
-use blocks::pool::PoolId;
-use lines::ThreadId;
+use numbers::GroupId;
+use numbers::PoolId;
+use numbers::QueueId;
+use numbers::SemaphoreId;
+use numbers::ThreadId;
 use objects::group::Group;
-use objects::group::GroupId;
 use objects::group::is_met;
 use objects::queue::Queue;
-use objects::queue::QueueId;
 use objects::queue::sizes_fit;
 use objects::semaphore::Semaphore;
-use objects::semaphore::SemaphoreId;
 use scheduler::thread::COMPLETED;
 use scheduler::thread::SUSPENDED;
 use scheduler::thread::TERMINATED;
@@ -77,7 +78,7 @@ pub fn create(
                 unless(threshold <= priority, THRESH_ERROR),
                 first(
                     unless(start < 2, START_ERROR),
-                    unless(!(caller == INTERRUPT), CALLER_ERROR),
+                    unless((caller == STARTUP) | (caller == THREAD), CALLER_ERROR),
                 ),
             ),
         ),
@@ -199,7 +200,7 @@ pub fn semaphore_create(n: SemaphoreId, x: Semaphore, caller: u32) -> u32
 {
     first(
         unless((n.0 < 16) & !x.created, SEMAPHORE_ERROR),
-        unless(!(caller == INTERRUPT), CALLER_ERROR),
+        unless((caller == STARTUP) | (caller == THREAD), CALLER_ERROR),
     )
 }
 
@@ -250,7 +251,7 @@ pub fn queue_create(n: QueueId, q: Queue, words: u32, storage: u32, caller: u32)
         unless((n.0 < 8) & !q.created, QUEUE_ERROR),
         first(
             unless(sizes_fit(words, storage), SIZE_ERROR),
-            unless(!(caller == INTERRUPT), CALLER_ERROR),
+            unless((caller == STARTUP) | (caller == THREAD), CALLER_ERROR),
         ),
     )
 }
@@ -304,7 +305,7 @@ pub fn group_create(n: GroupId, g: Group, caller: u32) -> u32
 {
     first(
         unless((n.0 < 8) & !g.created, GROUP_ERROR),
-        unless(!(caller == INTERRUPT), CALLER_ERROR),
+        unless((caller == STARTUP) | (caller == THREAD), CALLER_ERROR),
     )
 }
 
@@ -351,7 +352,7 @@ pub fn pool_create(n: PoolId, p: Pool, block: u32, total: u32, caller: u32) -> u
         unless((n.0 < 4) & !p.created, POOL_ERROR),
         first(
             unless(blocks::pool::sizes_fit(block, total), SIZE_ERROR),
-            unless(!(caller == INTERRUPT), CALLER_ERROR),
+            unless((caller == STARTUP) | (caller == THREAD), CALLER_ERROR),
         ),
     )
 }

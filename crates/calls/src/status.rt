@@ -1,4 +1,4 @@
-// The statuses, by ThreadX's names where it has one. Those from 0x100 on are the house's own.
+// The statuses, by ThreadX's names where it has one. Those from 0x100 on are this library's own.
 pub const SUCCESS: u32 = 0x00;
 
 pub const DELETED: u32 = 0x01;

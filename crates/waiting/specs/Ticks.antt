@@ -1,4 +1,4 @@
--- Ticks of one thread's wait.
+-- The ticks that are left of one thread's wait or sleep.
 use mathlib.Core.Bool.{Bool, _&&_, not}
 use Prim.Native.Nat.{ℕ}
 use lib.Dec.{eqb, ltb}
@@ -8,15 +8,15 @@ use Rattle.scheduler.specs.Threads.{asleep, onQueue, onSemaphore, onFlags, paus
 use Rattle.calls.specs.declared.held.Held.{Held}
 use Rattle.calls.specs.Statuses as Statuses
 
--- a wait without end
+-- rule 5.1: a wait or sleep without end
 abbrev pub forever : ℕ
 forever = 0xFFFFFFFF
 
--- a timed wait or sleep
+-- rule 5.1: a wait or sleep with a number of ticks left
 unfoldable pub timedb : Thread → Bool
 timedb th = pausedb th && not (eqb (th .ticks) forever)
 
--- "Timed out: the object's last-row status (a sleeper: 0x00)"
+-- rule 5.5: what a wait or sleep whose ticks are over leaves: by what was waited for
 unfoldable pub timeoutStatus : Thread → Held → ℕ
 timeoutStatus th h =
     if eqb (th .state) asleep then Statuses.success
@@ -25,9 +25,20 @@ timeoutStatus th h =
     else if eqb (th .state) onFlags then Statuses.noEvents
     else Statuses.noMemory
 
+-- rule 6.10: another number of ticks left
 unfoldable pub withTicks : ℕ → Thread → Thread
-withTicks n th = record { created = th .created; state = th .state; priority = th .priority; threshold = th .threshold; marked = th .marked; suspending = th .suspending; object = th .object; ticks = n }
+withTicks n th =
+    record {
+      created = th .created;
+      state = th .state;
+      priority = th .priority;
+      threshold = th .threshold;
+      marked = th .marked;
+      suspending = th .suspending;
+      object = th .object;
+      ticks = n;
+    }
 
--- a timed wait whose last tick this is
+-- rule 6.10: a timed wait or sleep whose last tick this is
 unfoldable pub lastTickb : Thread → Bool
 lastTickb th = timedb th && ltb (th .ticks) 2

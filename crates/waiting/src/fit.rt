@@ -57,14 +57,9 @@ pub fn paused_fits(th: Thread, h: Held) -> bool
     if !th.is_paused() {
         return false;
     }
-    let held_words = h.words;
-    let message = h.message;
-    let words = joined(held_words);
-    let unsent = (joined(message) == 0) & !h.sending & !h.front;
+    let words = h.words;
+    let unsent = (joined(words) == 0) & !h.sending & !h.front;
     let unasked = (h.request == 0) & (h.option == 0);
-    if words != 0 {
-        return false;
-    }
     if h.status != WAITING {
         return false;
     }
@@ -77,38 +72,23 @@ pub fn paused_fits(th: Thread, h: Held) -> bool
     unsent & unasked
 }
 
-// Whether what a created thread holds fits its record, asked of one that neither waits nor sleeps.
+// Whether what a created thread holds fits its record, asked of one that neither waits nor sleeps: its words may be any.
 pub fn resting_fits(h: Held) -> bool
     ensures { λ r. ⌜ ((th : Thread) → th .created ≡ true → pausedb th ≡ false → r ≡ heldFitb th h) ⌝ }
 {
-    let message = h.message;
-    let any = joined(message) | h.request | (h.option as u32);
-    if any != 0 {
-        return false;
-    }
-    if h.sending {
-        return false;
-    }
-    if h.front {
-        return false;
-    }
-    h.status != WAITING
+    (h.status != WAITING) & !h.sending & !h.front & ((h.request == 0) & (h.option == 0))
 }
 
 // Whether what an uncreated thread holds fits its record: it is zero.
 pub fn unheld_fits(h: Held) -> bool
     ensures { λ r. ⌜ ((th : Thread) → th .created ≡ false → r ≡ heldFitb th h) ⌝ }
 {
-    let message = h.message;
     let words = h.words;
-    let any = joined(message) | joined(words) | h.request | (h.option as u32) | h.status;
-    if any != 0 {
-        return false;
-    }
-    if h.sending {
-        return false;
-    }
-    !h.front
+    (h.status == 0)
+        & (joined(words) == 0)
+        & !h.sending
+        & !h.front
+        & ((h.request == 0) & (h.option == 0))
 }
 
 // Whether a semaphore may have a waiter.
@@ -122,8 +102,8 @@ pub fn semaphore_waits(x: Semaphore) -> bool
 pub fn queue_waits(h: Held, q: Queue) -> bool
     ensures { λ r. ⌜ r ≡ queueWaitb h q ⌝ }
 {
-    let message = h.message;
     if h.sending {
+        let message = h.words;
         return q.created & (q.is_full() & is_blank(message, q.words));
     }
     q.created & q.is_empty()

@@ -9,14 +9,16 @@ use borrow.Author.Tests.{le-ltb, ne-eqb, eqb-true, lt-ltb, ltb-true, ltb-false}
 use Rattle.lines.specs.Logic.{if_then_else_}
 use Rattle.lines.proofs.Laws.Logic.{by-test, never, or-rest}
 use Rattle.objects.specs.Groups.{orOptionb, metb}
+use Rattle.calls.specs.declared.call.Request.{Request}
 use Rattle.calls.specs.declared.call.Decoded.the-variants.{Unknown}
 use Rattle.calls.specs.Calls.{decoded, knownCall}
 
 -- a known caller: the call of the number
-pub decoded-as : (n m caller a b c d : ℕ) → caller ≤ 2 → n ≡ m → decoded n caller a b c d ≡ knownCall m a b c d
+pub decoded-as : (q : Request) (m : ℕ) → q .caller ≤ 2 → q .number ≡ m → decoded q ≡ knownCall m (q .a) (q .b) (q .c) (q .d)
 unfolding decoded
-decoded-as n m caller a b c d h e =
-    ap (λ (x : Bool). if x then Unknown else knownCall n a b c d) (le-ltb 2 caller h) ∙ ap (λ (x : ℕ). knownCall x a b c d) e
+decoded-as q m h e =
+    ap (λ (x : Bool). if x then Unknown else knownCall (q .number) (q .a) (q .b) (q .c) (q .d)) (le-ltb 2 (q .caller) h)
+    ∙ ap (λ (x : ℕ). knownCall x (q .a) (q .b) (q .c) (q .d)) e
 
 -- ---- numbers of no call
 -- n is none of a list of numbers

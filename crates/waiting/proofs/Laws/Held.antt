@@ -12,7 +12,7 @@ use Rattle.scheduler.specs.declared.thread.Thread.{Thread}
 use Rattle.scheduler.specs.Threads.{uncreated, sleepsb, waitsb, pausedb}
 use Rattle.scheduler.proofs.Laws.States
 use Rattle.calls.specs.declared.held.Held.{Held}
-use Rattle.calls.specs.Held.{noWords, noHeld, holding, waiting, sending, requesting}
+use Rattle.calls.specs.Held.{noWords, noHeld, holding, heldWaiting, sending, requesting, heldWords, messageOf}
 use Rattle.calls.specs.Statuses as Statuses
 use Rattle.waiting.specs.Fit.{blankFrom, waitsOnb, sendsb, statusFitb, wordsFitb, senderFitb, requestFitb, unheldFitb, heldFitb}
 
@@ -20,10 +20,10 @@ use Rattle.waiting.specs.Fit.{blankFrom, waitsOnb, sendsb, statusFitb, w
 heldTest : Bool → Bool → Bool → Bool → Held → Bool
 heldTest paused onQueue onFlags created h =
     (implies paused (eqb (h .status) Statuses.waiting) && (paused || not (eqb (h .status) Statuses.waiting)))
-    && implies paused (blankFrom 0 (h .words))
-    && (implies (h .sending) onQueue && implies (h .front) (onQueue && h .sending) && ((onQueue && h .sending) || blankFrom 0 (h .message)))
+    && implies paused (blankFrom 0 (heldWords h))
+    && (implies (h .sending) onQueue && implies (h .front) (onQueue && h .sending) && ((onQueue && h .sending) || blankFrom 0 (messageOf h)))
     && (leb (h .option) 3 && (onFlags || (eqb (h .request) 0 && eqb (h .option) 0)))
-    && (created || (eqb (h .status) 0 && blankFrom 0 (h .words)))
+    && (created || (eqb (h .status) 0 && blankFrom 0 (heldWords h)))
 
 held-by : (th : Thread) (h : Held) → heldFitb th h ≡ heldTest (pausedb th) (waitsOnb 5 th) (waitsOnb 7 th) (th .created) h
 unfolding heldTest heldFitb statusFitb wordsFitb senderFitb sendsb requestFitb unheldFitb
@@ -48,7 +48,7 @@ held-rest th made rests h =
 
 -- it holds any status but that of waiters
 pub held-status : (th : Thread) → th .created ≡ true → th .state < 4 → (status : ℕ) (words : List ℕ) → eqb status Statuses.waiting ≡ false → heldFitb th (holding status words) ≡ true
-unfolding heldTest holding implies blankFrom allBelow
+unfolding heldTest holding heldWords messageOf implies blankFrom allBelow
 held-status th made rests status words e = held-rest th made rests (holding status words) ∙ rw e
 
 -- and whatever it held in another such state
@@ -57,7 +57,7 @@ held-same th old made rests was rested h e = held-rest th made rests h ∙ sym (
 
 -- a waiter or sleeper on no queue and for no flags
 pub held-waiting : (th : Thread) → th .created ≡ true → 4 ≤ th .state → (th .state ≡ 5 → ⊥) → (th .state ≡ 7 → ⊥) → heldFitb th (holding Statuses.waiting noWords) ≡ true
-unfolding heldTest holding implies blankFrom allBelow
+unfolding heldTest holding heldWords messageOf implies blankFrom allBelow
 held-waiting th made waits q f =
     let p = States.paused-in th made waits in
     let a = other-state 5 th q in
@@ -77,17 +77,17 @@ held-queue th made e h =
     let f = other-state 7 th (λ z. omega (arith, e, z)) in
     held-by th h ∙ (λ i. heldTest (p i) (q i) (f i) (made i) h)
 
-pub held-receiving : (th : Thread) → th .created ≡ true → th .state ≡ 5 → heldFitb th waiting ≡ true
-unfolding heldTest holding implies blankFrom allBelow
-held-receiving th made e = held-queue th made e waiting
+pub held-receiving : (th : Thread) → th .created ≡ true → th .state ≡ 5 → heldFitb th heldWaiting ≡ true
+unfolding heldTest holding heldWords messageOf implies blankFrom allBelow
+held-receiving th made e = held-queue th made e heldWaiting
 
 pub held-sending : (front : Bool) (message : List ℕ) (th : Thread) → th .created ≡ true → th .state ≡ 5 → heldFitb th (sending front message) ≡ true
-unfolding heldTest sending implies blankFrom allBelow
+unfolding heldTest sending heldWords messageOf implies blankFrom allBelow
 held-sending true message th made e = held-queue th made e (sending true message)
 held-sending false message th made e = held-queue th made e (sending false message)
 
 pub held-requesting : (request option : ℕ) → leb option 3 ≡ true → (th : Thread) → th .created ≡ true → th .state ≡ 7 → heldFitb th (requesting request option) ≡ true
-unfolding heldTest requesting implies blankFrom allBelow
+unfolding heldTest requesting heldWords messageOf implies blankFrom allBelow
 held-requesting request option known th made e =
     let p = States.paused-in th made (omega (arith, e)) in
     let q = other-state 5 th (λ z. omega (arith, e, z)) in
@@ -95,5 +95,5 @@ held-requesting request option known th made e =
     held-by th (requesting request option) ∙ (λ i. heldTest (p i) (q i) (f i) (made i) (requesting request option)) ∙ rw known
 
 pub held-none : heldFitb uncreated noHeld ≡ true
-unfolding heldFitb statusFitb wordsFitb senderFitb sendsb requestFitb unheldFitb waitsOnb pausedb waitsb sleepsb uncreated holding implies blankFrom allBelow
+unfolding heldFitb statusFitb wordsFitb senderFitb sendsb requestFitb unheldFitb waitsOnb pausedb waitsb sleepsb uncreated holding heldWords messageOf implies blankFrom allBelow
 held-none = refl

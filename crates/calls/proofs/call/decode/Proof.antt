@@ -4,7 +4,8 @@ use borrow.Author.Needs.{needs}
 use borrow.Author.Tests.{lt-ltb}
 use Rattle.calls.specs.declared.call.Call.the-variants.{BlockRelease}
 use Rattle.calls.specs.declared.call.Decoded.the-variants.{Known}
-use Rattle.calls.specs.Calls.{decoded, knownCall, threadNumber, semaphoreNumber, queueNumber, groupNumber, poolNumber, blockNumber}
+use Rattle.numbers.specs.Numbers.{threadNumber, semaphoreNumber, queueNumber, groupNumber, poolNumber}
+use Rattle.calls.specs.Calls.{decoded, knownCall, blockNumber}
 use Rattle.calls.proofs.Laws.Calls.{decoded-as, unknown}
 use Rattle.calls.proofs.call.decode.Statement.{statement}
 use Rattle.calls.proofs.call.decode.Tie as tie
@@ -12,7 +13,7 @@ use Rattle.calls.proofs.call.decode.Tie as tie
 module _ (k : tie.After-block-number) where
   -- the first argument, and its five ids
   abbrev first : ℕ
-  first = k .before .before .before .before .before .before .before .args .a
+  first = k .before .before .before .before .before .before .before .before .args .request .a
 
   thread : k .before .before .before .before .before .thread-id .result ≡ threadNumber first
   thread = λ i. record { 0 = k .before .before .before .before .before .thread-id .ensures i }
@@ -30,14 +31,14 @@ module _ (k : tie.After-block-number) where
   pool = λ i. record { 0 = k .before .pool-id .ensures i }
 
   -- and the block is that of the second
-  block : k .block-number .result ≡ blockNumber (k .before .before .before .before .before .before .before .args .b)
+  block : k .block-number .result ≡ blockNumber (k .before .before .before .before .before .before .before .before .args .request .b)
   block = k .block-number .ensures
 
   -- the caller is known: what is decoded is the call of the number
-  known : (m : ℕ) → let x = k .before .before .before .before .before .before .before .args in x .number ≡ m → knownCall m (x .a) (x .b) (x .c) (x .d) ≡ decoded (x .number) (x .caller) (x .a) (x .b) (x .c) (x .d)
+  known : (m : ℕ) → let q = k .before .before .before .before .before .before .before .before .args .request in q .number ≡ m → knownCall m (q .a) (q .b) (q .c) (q .d) ≡ decoded q
   known m e =
-      let x = k .before .before .before .before .before .before .before .args in
-      sym (decoded-as (x .number) m (x .caller) (x .a) (x .b) (x .c) (x .d) (k .before .before .before .before .before .before .if1 .left) e)
+      let q = k .before .before .before .before .before .before .before .before .args .request in
+      sym (decoded-as q m (k .before .before .before .before .before .before .if1 .left) e)
 
 returns : tie.Need-returns
 unfolding decoded
@@ -45,7 +46,7 @@ returns c = rw (lt-ltb _ _ (c .if1 .taken))
 
 returns-41 : tie.Need-returns-41
 returns-41 c =
-    let x = c .before .before .before .before .before .before .before .before .args in
+    let x = c .before .before .before .before .before .before .before .before .before .args .request in
     sym (unknown (x .number) (x .a) (x .b) (x .c) (x .d) (c .match .rest)) ∙ known (c .before) (x .number) refl
 
 pub decode-spec : {M : Type 1} → statement M

@@ -1,5 +1,5 @@
 use borrow.Author.Needs.{needs}
-use Rattle.calls.specs.Refusals.{abortRefusal}
+use Rattle.calls.specs.Chains.{abortRefusal}
 use Rattle.calls.proofs.refusal.abort.Statement.{statement}
 use Rattle.calls.proofs.refusal.abort.Tie as tie
 

@@ -1,5 +1,5 @@
 use borrow.Author.Needs.{needs}
-use Rattle.calls.specs.Refusals.{allocateRefusal}
+use Rattle.calls.specs.Chains.{allocateRefusal}
 use Rattle.calls.proofs.refusal.allocate.Statement.{statement}
 use Rattle.calls.proofs.refusal.allocate.Tie as tie
 

@@ -1,5 +1,5 @@
 use borrow.Author.Needs.{needs}
-use Rattle.calls.specs.Refusals.{ceilingRefusal}
+use Rattle.calls.specs.Chains.{ceilingRefusal}
 use Rattle.calls.proofs.refusal.ceiling_put.Statement.{statement}
 use Rattle.calls.proofs.refusal.ceiling_put.Tie as tie
 

@@ -1,5 +1,5 @@
 use borrow.Author.Needs.{needs}
-use Rattle.calls.specs.Refusals.{createRefusal}
+use Rattle.calls.specs.Chains.{createRefusal}
 use Rattle.calls.proofs.refusal.create.Statement.{statement}
 use Rattle.calls.proofs.refusal.create.Tie as tie
 

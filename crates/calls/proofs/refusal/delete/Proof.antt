@@ -1,5 +1,5 @@
 use borrow.Author.Needs.{needs}
-use Rattle.calls.specs.Refusals.{deleteRefusal}
+use Rattle.calls.specs.Chains.{deleteRefusal}
 use Rattle.calls.proofs.refusal.delete.Statement.{statement}
 use Rattle.calls.proofs.refusal.delete.Tie as tie
 

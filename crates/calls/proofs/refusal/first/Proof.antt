@@ -1,5 +1,5 @@
 use borrow.Author.Tests.{ne-eqb}
-use Rattle.calls.specs.Refusals.{firstOf}
+use Rattle.calls.specs.Chains.{firstOf}
 use Rattle.calls.proofs.refusal.first.Statement.{statement}
 use Rattle.calls.proofs.refusal.first.Tie as tie
 

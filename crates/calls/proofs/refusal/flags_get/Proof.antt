@@ -1,5 +1,5 @@
 use borrow.Author.Needs.{needs}
-use Rattle.calls.specs.Refusals.{getRefusal}
+use Rattle.calls.specs.Chains.{getRefusal}
 use Rattle.calls.proofs.Laws.Calls.{met-option}
 use Rattle.calls.proofs.refusal.flags_get.Statement.{statement}
 use Rattle.calls.proofs.refusal.flags_get.Tie as tie

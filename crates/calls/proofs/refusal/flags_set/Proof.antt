@@ -1,5 +1,5 @@
 use borrow.Author.Needs.{needs}
-use Rattle.calls.specs.Refusals.{setRefusal}
+use Rattle.calls.specs.Chains.{setRefusal}
 use Rattle.calls.proofs.refusal.flags_set.Statement.{statement}
 use Rattle.calls.proofs.refusal.flags_set.Tie as tie
 

@@ -1,5 +1,5 @@
 use borrow.Author.Needs.{needs}
-use Rattle.calls.specs.Refusals.{groupCreateRefusal}
+use Rattle.calls.specs.Chains.{groupCreateRefusal}
 use Rattle.calls.proofs.refusal.group_create.Statement.{statement}
 use Rattle.calls.proofs.refusal.group_create.Tie as tie
 

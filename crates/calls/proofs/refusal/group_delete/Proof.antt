@@ -1,5 +1,5 @@
 use borrow.Author.Needs.{needs}
-use Rattle.calls.specs.Refusals.{groupDeleteRefusal}
+use Rattle.calls.specs.Chains.{groupDeleteRefusal}
 use Rattle.calls.proofs.refusal.group_delete.Statement.{statement}
 use Rattle.calls.proofs.refusal.group_delete.Tie as tie
 

@@ -1,5 +1,5 @@
 use borrow.Author.Needs.{needs}
-use Rattle.calls.specs.Refusals.{poolRefusal}
+use Rattle.calls.specs.Chains.{poolRefusal}
 use Rattle.calls.proofs.refusal.pool.Statement.{statement}
 use Rattle.calls.proofs.refusal.pool.Tie as tie
 

@@ -1,5 +1,5 @@
 use borrow.Author.Needs.{needs}
-use Rattle.calls.specs.Refusals.{poolCreateRefusal}
+use Rattle.calls.specs.Chains.{poolCreateRefusal}
 use Rattle.calls.proofs.refusal.pool_create.Statement.{statement}
 use Rattle.calls.proofs.refusal.pool_create.Tie as tie
 

@@ -1,5 +1,5 @@
 use borrow.Author.Needs.{needs}
-use Rattle.calls.specs.Refusals.{poolDeleteRefusal}
+use Rattle.calls.specs.Chains.{poolDeleteRefusal}
 use Rattle.calls.proofs.refusal.pool_delete.Statement.{statement}
 use Rattle.calls.proofs.refusal.pool_delete.Tie as tie
 

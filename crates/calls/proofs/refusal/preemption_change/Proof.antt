@@ -1,5 +1,5 @@
 use borrow.Author.Needs.{needs}
-use Rattle.calls.specs.Refusals.{preemptionRefusal}
+use Rattle.calls.specs.Chains.{preemptionRefusal}
 use Rattle.calls.proofs.refusal.preemption_change.Statement.{statement}
 use Rattle.calls.proofs.refusal.preemption_change.Tie as tie
 

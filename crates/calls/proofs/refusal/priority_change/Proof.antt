@@ -1,5 +1,5 @@
 use borrow.Author.Needs.{needs}
-use Rattle.calls.specs.Refusals.{priorityRefusal}
+use Rattle.calls.specs.Chains.{priorityRefusal}
 use Rattle.calls.proofs.refusal.priority_change.Statement.{statement}
 use Rattle.calls.proofs.refusal.priority_change.Tie as tie
 

@@ -1,5 +1,5 @@
 use borrow.Author.Needs.{needs}
-use Rattle.calls.specs.Refusals.{queueRefusal}
+use Rattle.calls.specs.Chains.{queueRefusal}
 use Rattle.calls.proofs.refusal.queue.Statement.{statement}
 use Rattle.calls.proofs.refusal.queue.Tie as tie
 

@@ -1,5 +1,5 @@
 use borrow.Author.Needs.{needs}
-use Rattle.calls.specs.Refusals.{queueCreateRefusal}
+use Rattle.calls.specs.Chains.{queueCreateRefusal}
 use Rattle.calls.proofs.refusal.queue_create.Statement.{statement}
 use Rattle.calls.proofs.refusal.queue_create.Tie as tie
 

@@ -1,5 +1,5 @@
 use borrow.Author.Needs.{needs}
-use Rattle.calls.specs.Refusals.{queueDeleteRefusal}
+use Rattle.calls.specs.Chains.{queueDeleteRefusal}
 use Rattle.calls.proofs.refusal.queue_delete.Statement.{statement}
 use Rattle.calls.proofs.refusal.queue_delete.Tie as tie
 

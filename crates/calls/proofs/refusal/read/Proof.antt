@@ -1,5 +1,5 @@
 use borrow.Author.Needs.{needs}
-use Rattle.calls.specs.Refusals.{readRefusal}
+use Rattle.calls.specs.Chains.{readRefusal}
 use Rattle.calls.proofs.refusal.read.Statement.{statement}
 use Rattle.calls.proofs.refusal.read.Tie as tie
 

@@ -1,5 +1,5 @@
 use borrow.Author.Needs.{needs}
-use Rattle.calls.specs.Refusals.{receiveRefusal}
+use Rattle.calls.specs.Chains.{receiveRefusal}
 use Rattle.calls.proofs.refusal.receive.Statement.{statement}
 use Rattle.calls.proofs.refusal.receive.Tie as tie
 

@@ -1,5 +1,5 @@
 use borrow.Author.Needs.{needs}
-use Rattle.calls.specs.Refusals.{releaseRefusal}
+use Rattle.calls.specs.Chains.{releaseRefusal}
 use Rattle.calls.proofs.refusal.release.Statement.{statement}
 use Rattle.calls.proofs.refusal.release.Tie as tie
 

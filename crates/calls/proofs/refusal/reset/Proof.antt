@@ -1,5 +1,5 @@
 use borrow.Author.Needs.{needs}
-use Rattle.calls.specs.Refusals.{resetRefusal}
+use Rattle.calls.specs.Chains.{resetRefusal}
 use Rattle.calls.proofs.refusal.reset.Statement.{statement}
 use Rattle.calls.proofs.refusal.reset.Tie as tie
 

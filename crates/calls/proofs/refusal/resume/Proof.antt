@@ -1,5 +1,5 @@
 use borrow.Author.Needs.{needs}
-use Rattle.calls.specs.Refusals.{resumeRefusal}
+use Rattle.calls.specs.Chains.{resumeRefusal}
 use Rattle.calls.proofs.refusal.resume.Statement.{statement}
 use Rattle.calls.proofs.refusal.resume.Tie as tie
 

@@ -1,5 +1,5 @@
 use borrow.Author.Needs.{needs}
-use Rattle.calls.specs.Refusals.{semaphoreRefusal}
+use Rattle.calls.specs.Chains.{semaphoreRefusal}
 use Rattle.calls.proofs.refusal.semaphore.Statement.{statement}
 use Rattle.calls.proofs.refusal.semaphore.Tie as tie
 

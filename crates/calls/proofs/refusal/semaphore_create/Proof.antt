@@ -1,5 +1,5 @@
 use borrow.Author.Needs.{needs}
-use Rattle.calls.specs.Refusals.{semaphoreCreateRefusal}
+use Rattle.calls.specs.Chains.{semaphoreCreateRefusal}
 use Rattle.calls.proofs.refusal.semaphore_create.Statement.{statement}
 use Rattle.calls.proofs.refusal.semaphore_create.Tie as tie
 

@@ -1,5 +1,5 @@
 use borrow.Author.Needs.{needs}
-use Rattle.calls.specs.Refusals.{semaphoreDeleteRefusal}
+use Rattle.calls.specs.Chains.{semaphoreDeleteRefusal}
 use Rattle.calls.proofs.refusal.semaphore_delete.Statement.{statement}
 use Rattle.calls.proofs.refusal.semaphore_delete.Tie as tie
 

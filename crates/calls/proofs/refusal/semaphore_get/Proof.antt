@@ -1,5 +1,5 @@
 use borrow.Author.Needs.{needs}
-use Rattle.calls.specs.Refusals.{semaphoreGetRefusal}
+use Rattle.calls.specs.Chains.{semaphoreGetRefusal}
 use Rattle.calls.proofs.refusal.semaphore_get.Statement.{statement}
 use Rattle.calls.proofs.refusal.semaphore_get.Tie as tie
 

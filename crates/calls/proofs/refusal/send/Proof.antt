@@ -1,5 +1,5 @@
 use borrow.Author.Needs.{needs}
-use Rattle.calls.specs.Refusals.{sendRefusal}
+use Rattle.calls.specs.Chains.{sendRefusal}
 use Rattle.calls.proofs.refusal.send.Statement.{statement}
 use Rattle.calls.proofs.refusal.send.Tie as tie
 

@@ -1,5 +1,5 @@
 use borrow.Author.Needs.{needs}
-use Rattle.calls.specs.Refusals.{suspendRefusal}
+use Rattle.calls.specs.Chains.{suspendRefusal}
 use Rattle.calls.proofs.refusal.suspend.Statement.{statement}
 use Rattle.calls.proofs.refusal.suspend.Tie as tie
 

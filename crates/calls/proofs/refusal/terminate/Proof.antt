@@ -1,5 +1,5 @@
 use borrow.Author.Needs.{needs}
-use Rattle.calls.specs.Refusals.{terminateRefusal}
+use Rattle.calls.specs.Chains.{terminateRefusal}
 use Rattle.calls.proofs.refusal.terminate.Statement.{statement}
 use Rattle.calls.proofs.refusal.terminate.Tie as tie
 

@@ -1,5 +1,5 @@
 use borrow.Author.Needs.{needs}
-use Rattle.calls.specs.Refusals.{threadOnlyRefusal}
+use Rattle.calls.specs.Chains.{threadOnlyRefusal}
 use Rattle.calls.proofs.refusal.thread_only.Statement.{statement}
 use Rattle.calls.proofs.refusal.thread_only.Tie as tie
 

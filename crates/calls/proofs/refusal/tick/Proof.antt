@@ -1,5 +1,5 @@
 use borrow.Author.Needs.{needs}
-use Rattle.calls.specs.Refusals.{tickRefusal}
+use Rattle.calls.specs.Chains.{tickRefusal}
 use Rattle.calls.proofs.refusal.tick.Statement.{statement}
 use Rattle.calls.proofs.refusal.tick.Tie as tie
 

@@ -1,4 +1,4 @@
-use Rattle.calls.specs.Refusals.{unless}
+use Rattle.calls.specs.Chains.{unless}
 use Rattle.calls.proofs.refusal.unless.Statement.{statement}
 use Rattle.calls.proofs.refusal.unless.Tie as tie
 

@@ -1,7 +1,7 @@
 use mathlib.Core.Path.{sym, _∙_}
 use borrow.Author.Tests.{not-true, not-false, eq-eqb, ne-eqb}
 use Rattle.calls.specs.Statuses as Statuses
-use Rattle.waiting.proofs.Laws.Fit.{paused-stained, paused-status, paused-queue, paused-flags, paused-other}
+use Rattle.waiting.proofs.Laws.Fit.{paused-status, paused-queue, paused-flags, paused-other}
 use borrow.Author.Needs.{needs}
 use Rattle.waiting.proofs.fit.paused_fits.Statement.{statement}
 use Rattle.waiting.proofs.fit.paused_fits.Tie as tie
@@ -13,51 +13,34 @@ returns c =
 
 returns-2 : tie.Need-returns-2
 returns-2 c =
-    let a = c .before .before .before .before .before .before .before .before .before .before .before .args in
-    let m = c .before .before .before .before .before .before .before .before .before .before .is-paused in
-    let p = sym (m .ensures) ∙ not-false (m .result) (c .before .before .before .before .before .before .before .before .before .if1 .left) in
-    let w = c .before .before .before .before .before .before .joined in
-    rw p (sym (paused-stained (a .h) (a .th) p (sym (w .ensures) ∙ ne-eqb (w .result) 0 (c .if2 .taken))))
+    let a = c .before .before .before .before .before .before .before .before .before .before .args in
+    let m = c .before .before .before .before .before .before .before .before .before .is-paused in
+    let p = sym (m .ensures) ∙ not-false (m .result) (c .before .before .before .before .before .before .before .before .if1 .left) in
+    rw p (sym (paused-status (a .h) (a .th) p (ne-eqb (a .h .status) Statuses.waiting (c .if2 .taken))))
 
 returns-3 : tie.Need-returns-3
 returns-3 c =
     let a = c .before .before .before .before .before .before .before .before .before .before .before .before .before .args in
     let m = c .before .before .before .before .before .before .before .before .before .before .before .before .is-paused in
     let p = sym (m .ensures) ∙ not-false (m .result) (c .before .before .before .before .before .before .before .before .before .before .before .if1 .left) in
-    rw p (sym (paused-status (a .h) (a .th) p (ne-eqb (a .h .status) Statuses.waiting (c .if3 .taken))))
+    let e = eq-eqb (a .h .status) Statuses.waiting (c .before .before .before .if2 .left) in
+    rw (p, c .before .before .before .before .before .before .before .before .before .joined .ensures) (paused-queue (a .h) (a .th) p e (c .before .if3 .taken))
 
 returns-4 : tie.Need-returns-4
 returns-4 c =
-    let a = c .before .before .before .before .before .before .before .before .before .before .before .before .before .before .before .before .args in
-    let m = c .before .before .before .before .before .before .before .before .before .before .before .before .before .before .before .is-paused in
-    let p = sym (m .ensures) ∙ not-false (m .result) (c .before .before .before .before .before .before .before .before .before .before .before .before .before .before .if1 .left) in
-    let w = c .before .before .before .before .before .before .before .before .before .before .before .joined in
-    let b = sym (w .ensures) ∙ eq-eqb (w .result) 0 (c .before .before .before .before .before .if2 .left) in
-    let e = eq-eqb (a .h .status) Statuses.waiting (c .before .before .before .if3 .left) in
-    rw (p, c .before .before .before .before .before .before .before .before .before .before .joined2 .ensures) (paused-queue (a .h) (a .th) p b e (c .before .if4 .taken))
+    let a = c .before .before .before .before .before .before .before .before .before .before .before .before .before .before .before .args in
+    let m = c .before .before .before .before .before .before .before .before .before .before .before .before .before .before .is-paused in
+    let p = sym (m .ensures) ∙ not-false (m .result) (c .before .before .before .before .before .before .before .before .before .before .before .before .before .if1 .left) in
+    let e = eq-eqb (a .h .status) Statuses.waiting (c .before .before .before .before .before .if2 .left) in
+    rw (p, c .before .before .before .before .before .before .before .before .before .before .before .joined .ensures) (paused-flags (a .h) (a .th) p e (c .before .if4 .taken))
 
 returns-5 : tie.Need-returns-5
 returns-5 c =
-    let a = c .before .before .before .before .before .before .before .before .before .before .before .before .before .before .before .before .before .before .args in
-    let m = c .before .before .before .before .before .before .before .before .before .before .before .before .before .before .before .before .before .is-paused in
-    let p = sym (m .ensures) ∙ not-false (m .result) (c .before .before .before .before .before .before .before .before .before .before .before .before .before .before .before .before .if1 .left) in
-    let w = c .before .before .before .before .before .before .before .before .before .before .before .before .before .joined in
-    let b = sym (w .ensures) ∙ eq-eqb (w .result) 0 (c .before .before .before .before .before .before .before .if2 .left) in
-    let e = eq-eqb (a .h .status) Statuses.waiting (c .before .before .before .before .before .if3 .left) in
-    rw (p, c .before .before .before .before .before .before .before .before .before .before .before .before .joined2 .ensures) (paused-flags (a .h) (a .th) p b e (c .before .if5 .taken))
-
-returns-6 : tie.Need-returns-6
-returns-6 c =
-    let a = c .before .before .before .before .before .before .before .before .before .before .before .before .before .before .before .before .before .args in
-    let m = c .before .before .before .before .before .before .before .before .before .before .before .before .before .before .before .before .is-paused in
-    let p = sym (m .ensures) ∙ not-false (m .result) (c .before .before .before .before .before .before .before .before .before .before .before .before .before .before .before .if1 .left) in
-    let w = c .before .before .before .before .before .before .before .before .before .before .before .before .joined in
-    let b = sym (w .ensures) ∙ eq-eqb (w .result) 0 (c .before .before .before .before .before .before .if2 .left) in
-    let e = eq-eqb (a .h .status) Statuses.waiting (c .before .before .before .before .if3 .left) in
-    rw (p, c .before .before .before .before .before .before .before .before .before .before .before .joined2 .ensures) (paused-other (a .h) (a .th) p b e (c .before .before .if4 .left) (c .if5 .left))
+    let a = c .before .before .before .before .before .before .before .before .before .before .before .before .before .before .args in
+    let m = c .before .before .before .before .before .before .before .before .before .before .before .before .before .is-paused in
+    let p = sym (m .ensures) ∙ not-false (m .result) (c .before .before .before .before .before .before .before .before .before .before .before .before .if1 .left) in
+    let e = eq-eqb (a .h .status) Statuses.waiting (c .before .before .before .before .if2 .left) in
+    rw (p, c .before .before .before .before .before .before .before .before .before .before .joined .ensures) (paused-other (a .h) (a .th) p e (c .before .before .if3 .left) (c .if4 .left))
 
 pub paused-fits-spec : {M : Type 1} → statement M
-paused-fits-spec =
-    tie.close
-    (tie.spec (λ c κs. search needs) returns (λ c κs. search needs) (λ c κs. search needs) returns-2 returns-3 returns-4 returns-5
-    returns-6)
+paused-fits-spec = tie.close (tie.spec (λ c κs. search needs) returns (λ c κs. search needs) returns-2 returns-3 returns-4 returns-5)

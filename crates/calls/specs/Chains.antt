@@ -1,10 +1,11 @@
--- "Statuses": for each call the first reason that refuses it, read down 01's table and then left to right; 0 where there is none.
+-- What the functions of refusal.rt return: for each call its own part of the table of refusals as a chain, 0 where no reason holds. Nothing
+-- here needs to be believed: that each chain is what the table says is proved, in the kernel's laws.
 use mathlib.Core.Bool.{Bool, _&&_, _||_, not}
 use Prim.Native.Nat.{ℕ, _+_}
 use lib.Dec.{eqb, ltb, leb}
 use Rattle.lines.specs.Logic.{if_then_else_}
 use Rattle.scheduler.specs.declared.thread.Thread.{Thread}
-use Rattle.scheduler.specs.Threads.{completed, terminated, suspended, pausedb}
+use Rattle.scheduler.specs.Threads.{suspended, pausedb, finishedb}
 use Rattle.objects.specs.declared.semaphore.Semaphore.{Semaphore}
 use Rattle.objects.specs.declared.queue.Queue.{Queue}
 use Rattle.objects.specs.declared.group.Group.{Group}
@@ -12,7 +13,7 @@ use Rattle.objects.specs.Queues.{emptyb, roomb, sizesFitb}
 use Rattle.objects.specs.Groups.{metb}
 use Rattle.blocks.specs.declared.pool.Pool.{Pool}
 use Rattle.blocks.specs.Pools.{blockSizesb, usedb}
-use Rattle.calls.specs.Calls.{interrupt, thread}
+use Rattle.calls.specs.Callers.{startup, thread, startupOrThread, threadOnly, interruptOnly}
 use Rattle.calls.specs.Statuses
 
 -- no reason where the test holds, else the status
@@ -23,21 +24,7 @@ unless b status = if b then 0 else status
 unfoldable pub firstOf : ℕ → ℕ → ℕ
 firstOf a b = if eqb a 0 then b else a
 
--- caller kinds: S start-up and threads, T threads, I interrupts
-abbrev pub allowsS : ℕ → Bool
-allowsS caller = not (eqb caller interrupt)
-
-abbrev pub allowsT : ℕ → Bool
-allowsT caller = eqb caller thread
-
-abbrev pub allowsI : ℕ → Bool
-allowsI caller = eqb caller interrupt
-
--- completed or terminated
-abbrev pub finishedb : Thread → Bool
-finishedb th = eqb (th .state) completed || eqb (th .state) terminated
-
--- a wait is for threads only
+-- a wait that is not 0 is for threads only
 abbrev pub mayWaitb : ℕ → ℕ → Bool
 mayWaitb wait caller = eqb wait 0 || eqb caller thread
 
@@ -49,13 +36,13 @@ createRefusal t th p h start caller =
     (firstOf (unless (ltb p 32) Statuses.priorityError)
     (firstOf (unless (leb h p) Statuses.threshError)
     (firstOf (unless (ltb start 2) Statuses.startError)
-    (unless (allowsS caller) Statuses.callerError))))
+    (unless (startupOrThread caller) Statuses.callerError))))
 
 -- 2 delete: 0E 13 11
 unfoldable pub deleteRefusal : Thread → ℕ → ℕ
 deleteRefusal th caller =
     firstOf (unless (th .created) Statuses.threadError)
-    (firstOf (unless (allowsT caller) Statuses.callerError)
+    (firstOf (unless (threadOnly caller) Statuses.callerError)
     (unless (finishedb th) Statuses.deleteError))
 
 -- 3 resume: 0E 12
@@ -74,18 +61,18 @@ suspendRefusal th =
 unfoldable pub terminateRefusal : Thread → ℕ → ℕ
 terminateRefusal th caller =
     firstOf (unless (th .created) Statuses.threadError)
-    (unless (allowsT caller) Statuses.callerError)
+    (unless (threadOnly caller) Statuses.callerError)
 
 -- 6 reset: 0E 13 20
 unfoldable pub resetRefusal : Thread → ℕ → ℕ
 resetRefusal th caller =
     firstOf (unless (th .created) Statuses.threadError)
-    (firstOf (unless (allowsT caller) Statuses.callerError)
+    (firstOf (unless (threadOnly caller) Statuses.callerError)
     (unless (finishedb th) Statuses.notDone))
 
 -- 7 finish, 8 relinquish, 9 sleep: 13
 unfoldable pub threadOnlyRefusal : ℕ → ℕ
-threadOnlyRefusal caller = unless (allowsT caller) Statuses.callerError
+threadOnlyRefusal caller = unless (threadOnly caller) Statuses.callerError
 
 -- 10 wait abort: 0E 1B
 unfoldable pub abortRefusal : Thread → ℕ
@@ -98,18 +85,18 @@ unfoldable pub priorityRefusal : Thread → ℕ → ℕ → ℕ
 priorityRefusal th p caller =
     firstOf (unless (th .created) Statuses.threadError)
     (firstOf (unless (ltb p 32) Statuses.priorityError)
-    (unless (allowsT caller) Statuses.callerError))
+    (unless (threadOnly caller) Statuses.callerError))
 
 -- 12 preemption change: 0E 18 13, the threshold against the thread's present priority
 unfoldable pub preemptionRefusal : Thread → ℕ → ℕ → ℕ
 preemptionRefusal th h caller =
     firstOf (unless (th .created) Statuses.threadError)
     (firstOf (unless (leb h (th .priority)) Statuses.threshError)
-    (unless (allowsT caller) Statuses.callerError))
+    (unless (threadOnly caller) Statuses.callerError))
 
 -- 15 tick: 13
 unfoldable pub tickRefusal : ℕ → ℕ
-tickRefusal caller = unless (allowsI caller) Statuses.callerError
+tickRefusal caller = unless (interruptOnly caller) Statuses.callerError
 
 -- 38, 39 reads: 0E
 unfoldable pub readRefusal : Thread → ℕ
@@ -120,13 +107,13 @@ readRefusal th = unless (th .created) Statuses.threadError
 unfoldable pub semaphoreCreateRefusal : ℕ → Semaphore → ℕ → ℕ
 semaphoreCreateRefusal n x caller =
     firstOf (unless (ltb n 16 && not (x .created)) Statuses.semaphoreError)
-    (unless (allowsS caller) Statuses.callerError)
+    (unless (startupOrThread caller) Statuses.callerError)
 
 -- 17 delete: 0C 13
 unfoldable pub semaphoreDeleteRefusal : Semaphore → ℕ → ℕ
 semaphoreDeleteRefusal x caller =
     firstOf (unless (x .created) Statuses.semaphoreError)
-    (unless (allowsT caller) Statuses.callerError)
+    (unless (threadOnly caller) Statuses.callerError)
 
 -- 18 get: 0C 04 0D
 unfoldable pub semaphoreGetRefusal : Semaphore → ℕ → ℕ → ℕ
@@ -152,13 +139,13 @@ unfoldable pub queueCreateRefusal : ℕ → Queue → ℕ → ℕ → ℕ → �
 queueCreateRefusal n q words storage caller =
     firstOf (unless (ltb n 8 && not (q .created)) Statuses.queueError)
     (firstOf (unless (sizesFitb words storage) Statuses.sizeError)
-    (unless (allowsS caller) Statuses.callerError))
+    (unless (startupOrThread caller) Statuses.callerError))
 
 -- 23 delete: 09 13
 unfoldable pub queueDeleteRefusal : Queue → ℕ → ℕ
 queueDeleteRefusal q caller =
     firstOf (unless (q .created) Statuses.queueError)
-    (unless (allowsT caller) Statuses.callerError)
+    (unless (threadOnly caller) Statuses.callerError)
 
 -- 24 send, 25 front send: 09 03 04 0B; the message at an index of an area of m words lies wholly inside
 unfoldable pub sendRefusal : Queue → ℕ → ℕ → ℕ → ℕ → ℕ
@@ -184,13 +171,13 @@ queueRefusal q = unless (q .created) Statuses.queueError
 unfoldable pub groupCreateRefusal : ℕ → Group → ℕ → ℕ
 groupCreateRefusal n g caller =
     firstOf (unless (ltb n 8 && not (g .created)) Statuses.groupError)
-    (unless (allowsS caller) Statuses.callerError)
+    (unless (startupOrThread caller) Statuses.callerError)
 
 -- 30 delete: 06 13
 unfoldable pub groupDeleteRefusal : Group → ℕ → ℕ
 groupDeleteRefusal g caller =
     firstOf (unless (g .created) Statuses.groupError)
-    (unless (allowsT caller) Statuses.callerError)
+    (unless (threadOnly caller) Statuses.callerError)
 
 -- 31 set: 06 08
 unfoldable pub setRefusal : Group → ℕ → ℕ
@@ -212,13 +199,13 @@ unfoldable pub poolCreateRefusal : ℕ → Pool → ℕ → ℕ → ℕ → ℕ
 poolCreateRefusal n p block total caller =
     firstOf (unless (ltb n 4 && not (p .created)) Statuses.poolError)
     (firstOf (unless (blockSizesb block total) Statuses.sizeError)
-    (unless (allowsS caller) Statuses.callerError))
+    (unless (startupOrThread caller) Statuses.callerError))
 
 -- 34 delete: 02 13
 unfoldable pub poolDeleteRefusal : Pool → ℕ → ℕ
 poolDeleteRefusal p caller =
     firstOf (unless (p .created) Statuses.poolError)
-    (unless (allowsT caller) Statuses.callerError)
+    (unless (threadOnly caller) Statuses.callerError)
 
 -- 35 allocate: 02 04 10
 unfoldable pub allocateRefusal : Pool → ℕ → ℕ → ℕ
