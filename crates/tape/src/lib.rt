@@ -1,32 +1,23 @@
 // The call tape: a header of four words, records of calls, message words. All words are little-endian.
 ghost use mathlib.Core.Path.{_≡_};
 ghost use Prim.Native.Nat.{min};
-ghost use lib.ListN.{getD};
+ghost use lib.ListN.{length, getD};
 ghost use Rattle.lines.specs.Lines.{pad};
-ghost use Rattle.tape.specs.Tapes.{wordAt, recordsEnd, refusedb, countOf, messageCountOf, recordAt, mostMessageWords, messagesOf};
+ghost use Rattle.tape.specs.Tapes.{recordBytes, wordAt, recordsEnd, refusedb, countOf, messageCountOf, recordFrom, recordAt, mostMessageWords, messagesOf};
+use calls::call::Request;
+use words::WORD_BYTES;
+use words::joined;
 
 pub mod replies;
 
 // The sizes of the tape's parts in bytes, and its limits.
-pub const WORD_BYTES: usize = 4;
+pub const HEADER_BYTES: usize = 4 * WORD_BYTES;
 
-pub const HEADER_BYTES: usize = 16;
-
-pub const RECORD_BYTES: usize = 24;
+pub const RECORD_BYTES: usize = 6 * WORD_BYTES;
 
 pub const MOST_RECORDS: usize = 2048;
 
 pub const MOST_MESSAGE_WORDS: usize = 4000;
-
-// A call as the tape has it: its number, the caller's kind and four arguments.
-pub struct Record {
-    pub call: u32,
-    pub caller: u32,
-    pub a: u32,
-    pub b: u32,
-    pub c: u32,
-    pub d: u32,
-}
 
 // The byte at `at`, 0 past the end.
 fn byte(bytes: &[u8], at: usize) -> u8
@@ -40,11 +31,12 @@ pub fn word(bytes: &[u8], at: usize) -> u32
     ensures { λ r. ⌜ r ≡ wordAt (now (bytes .entry)) at ⌝ }
 {
     if at < bytes.len() {
-        let b0 = byte(bytes, at) as u32;
-        let b1 = byte(bytes, at + 1) as u32;
-        let b2 = byte(bytes, at + 2) as u32;
-        let b3 = byte(bytes, at + 3) as u32;
-        b0 + 0x100 * b1 + 0x1_0000 * b2 + 0x100_0000 * b3
+        joined(
+            byte(bytes, at),
+            byte(bytes, at + 1),
+            byte(bytes, at + 2),
+            byte(bytes, at + 3),
+        )
     } else {
         0
     }
@@ -96,28 +88,47 @@ pub fn message_count(bytes: &[u8]) -> u32
     if is_refused(bytes) { 0 } else { word(bytes, 8) }
 }
 
-// Record i, from 0; a record of zeros past the most that a tape can have.
-pub fn record_at(bytes: &[u8], i: usize) -> Record
+// The request that the bytes of a record spell.
+fn record_of(b: &[u8]) -> Request
+    requires { ⌜ length (now b) ≡ recordBytes ⌝ }
+    ensures { λ r. ⌜ r ≡ recordFrom (now (b .entry)) 0 ⌝ }
+{
+    Request {
+        number: joined(b[0], b[1], b[2], b[3]),
+        caller: joined(b[4], b[5], b[6], b[7]),
+        a: joined(b[8], b[9], b[10], b[11]),
+        b: joined(b[12], b[13], b[14], b[15]),
+        c: joined(b[16], b[17], b[18], b[19]),
+        d: joined(b[20], b[21], b[22], b[23]),
+    }
+}
+
+// The request of record i, from 0; a request of zeros past the most that a tape can have. A record that the tape's end cuts off is read byte by byte.
+pub fn record_at(bytes: &[u8], i: usize) -> Request
     ensures { λ r. ⌜ r ≡ recordAt (now (bytes .entry)) i ⌝ }
 {
-    if i < MOST_RECORDS {
-        let at = records_end(i as u32);
-        Record {
-            call: word(bytes, at),
-            caller: word(bytes, at + 4),
-            a: word(bytes, at + 8),
-            b: word(bytes, at + 12),
-            c: word(bytes, at + 16),
-            d: word(bytes, at + 20),
-        }
-    } else {
-        Record {
-            call: 0,
+    if MOST_RECORDS <= i {
+        return Request {
+            number: 0,
             caller: 0,
             a: 0,
             b: 0,
             c: 0,
             d: 0,
+        };
+    }
+    let at = records_end(i as u32);
+    let end = at + RECORD_BYTES;
+    if end <= bytes.len() {
+        record_of(&bytes[at..end])
+    } else {
+        Request {
+            number: word(bytes, at),
+            caller: word(bytes, at + 4),
+            a: word(bytes, at + 8),
+            b: word(bytes, at + 12),
+            c: word(bytes, at + 16),
+            d: word(bytes, at + 20),
         }
     }
 }

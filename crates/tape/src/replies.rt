@@ -1,6 +1,7 @@
 // Replies to the records of a tape, written one after the other into lent words.
 ghost use mathlib.Core.Path.{_≡_};
-ghost use Rattle.tape.specs.Replies.{replyWords, replied};
+ghost use Rattle.tape.specs.Replies.{refusal, replyWords, replied, repliedEach};
+use numbers::ThreadId;
 
 // The words of a reply: status, sixteen words, next thread, ended waits.
 pub const REPLY_WORDS: usize = 19;
@@ -12,6 +13,18 @@ pub struct Reply {
     pub words: [u32; 16],
     pub next: u32,
     pub ended: u32,
+}
+
+// The reply to a refused call, with the thread that runs next.
+pub fn refusal(status: u32, next: ThreadId) -> Reply
+    ensures { λ r. ⌜ r ≡ refusal status (next .0) ⌝ }
+{
+    Reply {
+        status,
+        words: [0; 16],
+        next: next.0 as u32,
+        ended: 0,
+    }
 }
 
 // A reply as nineteen words.
@@ -54,5 +67,16 @@ pub fn put_reply(replies: &mut [u32], i: u32, r: Reply)
             replies[at + j] = words[j];
             j += 1;
         }
+    }
+}
+
+// Writes the same reply to each of the first `n` records, where there is room for all of it.
+pub fn put_replies(replies: &mut [u32], n: u32, r: Reply)
+    ensures { λ _. ⌜ now (replies .exit) ≡ repliedEach (now (replies .entry)) n r ⌝ }
+{
+    let mut i: u32 = 0;
+    while i < n {
+        put_reply(replies, i, r);
+        i += 1;
     }
 }

@@ -2,10 +2,10 @@
 use mathlib.Core.Path.{_≡_, refl, sym, ap, ap₂, _∙_}
 use mathlib.Core.List.{List, map}
 use mathlib.Core.Bool.{Bool, true, false, _||_, not}
-use Prim.Native.Nat.{ℕ, _+_, _≤_, _<_}
+use Prim.Native.Nat.{ℕ, _+_, _-_, _≤_, _<_}
 use native.Mathlib.Omega.{arith}
-use lib.ListN.{length, getD, take, length-map, List·getD-eq-default, List·getD-map}
-use lib.Seq.{take-all}
+use lib.ListN.{length, getD, take, drop, length-drop, length-map, List·getD-eq-default, List·getD-map}
+use lib.Seq.{take-all, length-take-le, getD-take, getD-drop}
 use lib.Dec.{eqb, ltb}
 use borrow.Author.Tests.{ltb-false, eqb-true, not-false}
 use Rattle.lines.specs.Lists.{numbersFrom}
@@ -13,8 +13,9 @@ use Rattle.lines.specs.Lines.{pad}
 use Rattle.lines.proofs.Laws.Logic.{by-test, never}
 use Rattle.lines.proofs.Laws.Lists.{getD-any, length-numbers, number-at}
 use Rattle.lines.proofs.Laws.Lines.{take-pad, length-pad}
-use Rattle.tape.specs.declared.Record.{Record}
-use Rattle.tape.specs.Tapes.{wordAt, headerBytes, mostRecords, mostMessageWords, recordsSaid, recordsOffset, messagesSaid, messagesOffset, recordsEnd, tapeEnd, refusedb, countOf, messageCountOf, recordAt, messageAt, recordsOf, messagesOf}
+use Rattle.words.specs.Words.{word}
+use Rattle.calls.specs.declared.call.Request.{Request}
+use Rattle.tape.specs.Tapes.{wordAt, headerBytes, recordBytes, mostRecords, mostMessageWords, recordsSaid, recordsOffset, messagesSaid, messagesOffset, recordsEnd, tapeEnd, refusedb, countOf, messageCountOf, recordFrom, recordAt, messageAt, recordsOf, messagesOf}
 
 -- past the end there are zeros
 pub word-past : (bytes : List ℕ) (at : ℕ) → length bytes ≤ at → wordAt bytes at ≡ 0
@@ -25,6 +26,41 @@ word-past bytes at h =
     let b2 : getD bytes (at + 2) 0 ≡ 0 = List·getD-eq-default bytes 0 (omega arith) in
     let b3 : getD bytes (at + 3) 0 ≡ 0 = List·getD-eq-default bytes 0 (omega arith) in
     omega (arith, b0, b1, b2, b3)
+
+-- ---- a record that lies whole on the tape, read from its part: the n bytes from byte `at` on
+module _ (bytes : List ℕ) (at n : ℕ) where
+  -- the part has its size
+  pub part-size : at + n ≤ length bytes → length (take (at + n - at) (drop at bytes)) ≡ n
+  part-size h =
+      let d = length-drop at bytes in
+      length-take-le (at + n - at) (drop at bytes) (omega (arith, d, h)) ∙ (let z : at + n - at ≡ n = omega arith in z)
+
+  part-byte : (k : ℕ) → k < n → getD (take (at + n - at) (drop at bytes)) k 0 ≡ getD bytes (at + k) 0
+  part-byte k h = getD-take (at + n - at) (drop at bytes) k 0 (omega (arith, h)) ∙ getD-drop at bytes k 0
+
+  part-word : (k m : ℕ) → k + 4 ≤ n → m ≡ at + k → wordAt (take (at + n - at) (drop at bytes)) k ≡ wordAt bytes m
+  unfolding wordAt
+  part-word k m h e =
+      let b0 = part-byte k (omega (arith, h)) in
+      let b1 = part-byte (k + 1) (omega (arith, h)) ∙ ap (λ (j : ℕ). getD bytes j 0) (let z : at + (k + 1) ≡ at + k + 1 = omega arith in z) in
+      let b2 = part-byte (k + 2) (omega (arith, h)) ∙ ap (λ (j : ℕ). getD bytes j 0) (let z : at + (k + 2) ≡ at + k + 2 = omega arith in z) in
+      let b3 = part-byte (k + 3) (omega (arith, h)) ∙ ap (λ (j : ℕ). getD bytes j 0) (let z : at + (k + 3) ≡ at + k + 3 = omega arith in z) in
+      (λ i. word (b0 i) (b1 i) (b2 i) (b3 i)) ∙ sym (ap (wordAt bytes) e)
+
+-- its words are those of the tape
+pub part-record : (bytes : List ℕ) (at : ℕ) → recordFrom (take (at + recordBytes - at) (drop at bytes)) 0 ≡ recordFrom bytes at
+unfolding recordFrom
+part-record bytes at =
+    let w = part-word bytes at recordBytes in
+    λ i.
+    record {
+      number = w 0 at (omega arith) (omega arith) i;
+      caller = w 4 (at + 4) (omega arith) refl i;
+      a = w 8 (at + 8) (omega arith) refl i;
+      b = w 12 (at + 12) (omega arith) refl i;
+      c = w 16 (at + 16) (omega arith) refl i;
+      d = w 20 (at + 20) (omega arith) refl i;
+    }
 
 -- ---- what a function makes of the first n numbers
 module _ {A : Type 0} (f : ℕ → A) (n : ℕ) where
@@ -109,7 +145,7 @@ module _ (bytes : List ℕ) where
   unfolding recordsOf
   length-records = length-made (recordAt bytes) (countOf bytes)
 
-  pub record-in : (i : ℕ) (r : Record) → i < countOf bytes → getD (recordsOf bytes) i r ≡ recordAt bytes i
+  pub record-in : (i : ℕ) (r : Request) → i < countOf bytes → getD (recordsOf bytes) i r ≡ recordAt bytes i
   unfolding recordsOf
   record-in i r h = made-at (recordAt bytes) (countOf bytes) i r h
 
