@@ -1,5 +1,4 @@
--- Accounts from history: "Since creation, a semaphore's count is its start plus puts less served gets, modulo 2^32; free blocks are the total
--- plus releases less served allocates."
+-- Accounts from history (rules 13.5, 13.6): what a semaphore counts and how many blocks a pool has free, from the calls since its creation.
 use mathlib.Core.Path.{_≡_}
 use mathlib.Core.List.{List, [], _∷_}
 use mathlib.Core.Bool.{Bool, true, false, _&&_, not}
@@ -10,51 +9,53 @@ use Rattle.lines.specs.Logic.{oneIf}
 use Rattle.lines.specs.Lists.{filter}
 use Rattle.scheduler.specs.Orders.{lineAt}
 use Rattle.blocks.specs.Pools.{blocksOf, freeBlocks}
-use Rattle.calls.specs.Refusals.{finishedb}
+use Rattle.scheduler.specs.Threads.{finishedb}
 use Rattle.calls.specs.Statuses as Statuses
 use Rattle.kernel.specs.declared.Kernel.{Kernel}
 use Rattle.kernel.specs.Tables.{threadOf, heldAt, semaphoreAt, poolAt}
 use Rattle.kernel.specs.Sound.{Sound}
 use Rattle.kernel.specs.Kinds.{Kind, placeOf}
 use Rattle.kernel.specs.Roles.{rowOf}
-use Rattle.claims.specs.Lists.{Request, answer, next, after}
-use Rattle.claims.specs.Rolls.{onb, takesb, doneb, gave}
+use Rattle.claims.specs.Lists.{Made, answer, next, after}
+use Rattle.claims.specs.Rolls.{onb, takesb, succeedsb, gave}
 
 -- ---- who is served
--- a thread that waited is served: it holds 0x00 and is not finished, since terminate clears what a thread holds
+-- rule 13.6: a thread that waited is served: it holds 0x00 and is not finished, since terminate clears what a thread holds
 unfoldable pub servedb : Kernel → ℕ → Bool
 servedb x t = eqb (heldAt x t .status) Statuses.success && not (finishedb (threadOf x t))
 
--- "gets and allocates that were served later counted when served": how many of those who waited there a call serves, whatever call it is
-unfoldable pub servedLater : Kind → ℕ → Kernel → Request → ℕ
+-- rule 13.6: how many of those who waited there a call serves, whatever call it is
+unfoldable pub servedLater : Kind → ℕ → Kernel → Made → ℕ
 servedLater d n k m = length (filter (servedb (next k m)) (lineAt (k .scheduler) (placeOf d n)))
 
--- "served gets", "served allocates": how many a list of calls serves there, at once or later
-unfoldable pub served : Kind → ℕ → Kernel → List Request → ℕ
+-- rule 13.6: how many gets or allocates a list of calls serves there, at once or later
+unfoldable pub served : Kind → ℕ → Kernel → List Made → ℕ
 served d n k [] = 0
-served d n k (m ∷ ms) = oneIf (takesb d n m && doneb (answer k m)) + servedLater d n k m + served d n (next k m) ms
+served d n k (m ∷ ms) = oneIf (takesb d n m && succeedsb (answer k m)) + servedLater d n k m + served d n (next k m) ms
 
--- ---- "since creation": the history of an object ends with its delete
--- a delete of the object
-unfoldable pub deletesb : Kind → ℕ → Request → Bool
+-- ---- the history of an object ends with its delete
+-- rule 13.5: a delete of the object
+unfoldable pub deletesb : Kind → ℕ → Made → Bool
 deletesb d n m = onb n m (rowOf d .deletes)
 
--- no delete of it succeeds in a list of calls
-abbrev pub Undeleted : Kind → ℕ → Kernel → List Request → Type 0
+-- rule 13.5: no delete of it is done in a list of calls
+abbrev pub Undeleted : Kind → ℕ → Kernel → List Made → Type 0
 Undeleted d n k [] = Unit {0}
-Undeleted d n k (m ∷ ms) = ((deletesb d n m && doneb (answer k m)) ≡ false) × Undeleted d n (next k m) ms
+Undeleted d n k (m ∷ ms) = ((deletesb d n m && succeedsb (answer k m)) ≡ false) × Undeleted d n (next k m) ms
 
 -- ---- the accounts of a list of calls
-pub record SemaphoreAccount (n start : ℕ) (k : Kernel) (ms : List Request) : Type 0 where
+-- rule 13.5: the account of a semaphore that starts with a count
+pub record SemaphoreAccount (n start : ℕ) (k : Kernel) (ms : List Made) : Type 0 where
   -- nothing is lost by taking off: no more gets are served than the start and the puts allow
   pub enough : served Kind.semaphore n k ms ≤ start + gave Kind.semaphore n k ms
-  -- "its start plus puts less served gets, modulo 2^32"
+  -- the start plus puts less served gets, modulo 2^32
   pub count : semaphoreAt (after k ms) n .count ≡ (start + gave Kind.semaphore n k ms - served Kind.semaphore n k ms) % 4294967296
 
-pub record PoolAccount (n start : ℕ) (k : Kernel) (ms : List Request) : Type 0 where
+-- rule 13.5: the account of a pool that starts with so many free blocks
+pub record PoolAccount (n start : ℕ) (k : Kernel) (ms : List Made) : Type 0 where
   -- no more allocates are served than the start and the releases allow
   pub enough : served Kind.pool n k ms ≤ start + gave Kind.pool n k ms
-  -- "the total plus releases less served allocates"
+  -- the start plus releases less served allocates
   pub free : poolAt (after k ms) n .free ≡ start + gave Kind.pool n k ms - served Kind.pool n k ms
   -- so many blocks are listed as free
   pub listed : length (freeBlocks (poolAt (after k ms) n)) ≡ poolAt (after k ms) n .free
@@ -62,18 +63,22 @@ pub record PoolAccount (n start : ℕ) (k : Kernel) (ms : List Request) : Type 0
   pub total : blocksOf (poolAt (after k ms) n) ≡ blocksOf (poolAt k n)
 
 -- ---- the claims
+-- rule 13.5: the accounts hold of every list of calls in which no delete of the object is done
 pub record Accounts : Type 0 where
   -- call 16 creates a semaphore with a start of 32 bits
-  pub semaphore : (k : Kernel) → Sound k → (m : Request) → m .number ≡ 16 → m .b < 4294967296 → doneb (answer k m) ≡ true
-      → (ms : List Request) → Undeleted Kind.semaphore (m .a) (next k m) ms → SemaphoreAccount (m .a) (m .b) (next k m) ms
+  pub semaphore : (k : Kernel) → Sound k → (m : Made) → m .request .number ≡ 16 → m .request .b < 4294967296
+      → succeedsb (answer k m) ≡ true → (ms : List Made) → Undeleted Kind.semaphore (m .request .a) (next k m) ms
+      → SemaphoreAccount (m .request .a) (m .request .b) (next k m) ms
   -- call 33 creates a pool, all of whose blocks are free
-  pub pool : (k : Kernel) → Sound k → (m : Request) → m .number ≡ 33 → doneb (answer k m) ≡ true
-      → (ms : List Request) → Undeleted Kind.pool (m .a) (next k m) ms → PoolAccount (m .a) (blocksOf (poolAt (next k m) (m .a))) (next k m) ms
-  -- the total is that of the call's arguments: "blocks = total / (block bytes + 4), rounded down"
-  pub poolTotal : (k : Kernel) → Sound k → (m : Request) → m .number ≡ 33 → doneb (answer k m) ≡ true → blocksOf (poolAt (next k m) (m .a)) ≡ m .c / (m .b + 4)
+  pub pool : (k : Kernel) → Sound k → (m : Made) → m .request .number ≡ 33 → succeedsb (answer k m) ≡ true
+      → (ms : List Made) → Undeleted Kind.pool (m .request .a) (next k m) ms
+      → PoolAccount (m .request .a) (blocksOf (poolAt (next k m) (m .request .a))) (next k m) ms
+  -- rule 10.1: its blocks are those of the call's arguments
+  pub poolTotal : (k : Kernel) → Sound k → (m : Made) → m .request .number ≡ 33 → succeedsb (answer k m) ≡ true
+      → blocksOf (poolAt (next k m) (m .request .a)) ≡ m .request .c / (m .request .b + 4)
   -- from any sound tables in which it is created a semaphore has its present count for a start
   pub semaphoreFrom : (k : Kernel) → Sound k → (n : ℕ) → semaphoreAt k n .created ≡ true → semaphoreAt k n .count < 4294967296
-      → (ms : List Request) → Undeleted Kind.semaphore n k ms → SemaphoreAccount n (semaphoreAt k n .count) k ms
+      → (ms : List Made) → Undeleted Kind.semaphore n k ms → SemaphoreAccount n (semaphoreAt k n .count) k ms
   -- and a pool its free blocks, its list having its 64 slots
   pub poolFrom : (k : Kernel) → Sound k → (n : ℕ) → poolAt k n .created ≡ true → length (poolAt k n .list) ≡ 64
-      → (ms : List Request) → Undeleted Kind.pool n k ms → PoolAccount n (poolAt k n .free) k ms
+      → (ms : List Made) → Undeleted Kind.pool n k ms → PoolAccount n (poolAt k n .free) k ms

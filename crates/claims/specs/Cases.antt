@@ -1,14 +1,14 @@
--- The bench cases of document 01, P1 to P10 as one list, each made of general calls from nothing created, as equations that the definitions
--- compute. Proved as `cases` of proofs/Laws/Cases.antt.
+-- Worked cases (rules 15.1 to 15.12), P1 to P10 as one list, each made of general calls from nothing created, as equations that the
+-- definitions compute. Proved as `cases` of proofs/Laws/Cases.antt.
 use mathlib.Core.Path.{_≡_}
 use mathlib.Core.List.{List, [], _∷_}
 use Prim.Native.Nat.{ℕ}
 use Rattle.lines.specs.Lists.{numbersFrom}
 use Rattle.scheduler.specs.Orders.{lineAt}
-use Rattle.calls.specs.Calls.{startup, interrupt, thread}
+use Rattle.calls.specs.Callers.{startup, interrupt, thread}
 use Rattle.objects.specs.Queues.{capacityOf}
 use Rattle.blocks.specs.Pools.{blocksOf}
-use Rattle.calls.specs.Held.{oneWord}
+use Rattle.calls.specs.Held.{oneWord, heldWords}
 use Rattle.calls.specs.Statuses as Statuses
 use Rattle.waiting.specs.Ticks.{forever}
 use Rattle.kernel.specs.declared.Kernel.{Kernel}
@@ -18,93 +18,104 @@ use Rattle.kernel.specs.Kinds.{Kind, placeOf}
 use Rattle.kernel.specs.Views.{blockView}
 use Rattle.claims.specs.Lists.{answer}
 
--- the lent message area: three messages of one word, A, B and C
+-- the lent message words: three messages of one word, A, B and C
 abbrev pub messages : List ℕ
 messages = 10 ∷ 11 ∷ 12 ∷ []
 
--- what a call with up to four arguments answers, and the tables after it
+-- the answer to a call with four arguments, those that it does not use being 0
 unfoldable pub said : Kernel → ℕ → ℕ → ℕ → ℕ → ℕ → ℕ → Answer
-said k number caller a b c d = answer k (record { number = number; caller = caller; a = a; b = b; c = c; d = d; messages = messages })
+said k number caller a b c d =
+    answer k (record { request = record { number = number; caller = caller; a = a; b = b; c = c; d = d }; messages = messages })
 
-unfoldable pub after : Kernel → ℕ → ℕ → ℕ → ℕ → ℕ → ℕ → Kernel
-after k number caller a b c d = said k number caller a b c d .kernel
+-- the tables after it
+unfoldable pub made : Kernel → ℕ → ℕ → ℕ → ℕ → ℕ → ℕ → Kernel
+made k number caller a b c d = said k number caller a b c d .kernel
 
--- one thread of priority 10 runs, and semaphore 0 has a count
+-- rules 15.2, 15.10 to 15.12: one thread of priority 10 runs, and semaphore 0 has a count
 unfoldable pub withCount : ℕ → Kernel
-withCount count = after (after started 1 startup 0 10 10 1) 16 startup 0 count 0 0
+withCount count = made (made started 1 startup 0 10 10 1) 16 startup 0 count 0 0
 
--- P3: runner 0 of priority 10 and threshold 5; 1 of priority 7 resumed; 2 of priority 4 resumed
+-- rule 15.3, P3: runner 0 of priority 10 and threshold 5; 1 of priority 7 is resumed
 unfoldable pub p3a : Kernel
-p3a = after (after (after (after started 1 startup 0 10 5 1) 1 startup 1 7 7 0) 1 startup 2 4 4 0) 3 startup 1 0 0 0
+p3a = made (made (made (made started 1 startup 0 10 5 1) 1 startup 1 7 7 0) 1 startup 2 4 4 0) 3 startup 1 0 0 0
 
+-- rule 15.3, P3: 2 of priority 4 is resumed too
 unfoldable pub p3b : Kernel
-p3b = after p3a 3 startup 2 0 0 0
+p3b = made p3a 3 startup 2 0 0 0
 
 -- a thread of a priority starts and waits for semaphore 0
 unfoldable pub waits : Kernel → ℕ → ℕ → Kernel
-waits k t priority = after (after k 1 startup t priority priority 1) 18 thread 0 forever 0 0
+waits k t priority = made (made k 1 startup t priority priority 1) 18 thread 0 forever 0 0
 
+-- rule 15.9, P9: waiters of priority 20, 5, 5
 unfoldable pub p9 : Kernel
-p9 = waits (waits (waits (after started 16 startup 0 0 0 0) 0 20) 1 5) 2 5
+p9 = waits (waits (waits (made started 16 startup 0 0 0 0) 0 20) 1 5) 2 5
 
 -- a thread starts and waits for flags of group 0 by an option
 unfoldable pub asks : Kernel → ℕ → ℕ → ℕ → Kernel
-asks k t request option = after (after k 1 startup t 10 10 1) 32 thread 0 request option forever
+asks k t request option = made (made k 1 startup t 10 10 1) 32 thread 0 request option forever
 
--- P4: flags 0, waiters OR and clear 1, OR 1, AND 3
+-- rule 15.4, P4: no flag set; waiters with options 1, 0 and 2 for flags 1, 1 and 3
 unfoldable pub p4 : Kernel
-p4 = asks (asks (asks (after started 29 startup 0 0 0 0) 0 1 1) 1 1 0) 2 3 2
+p4 = asks (asks (asks (made started 29 startup 0 0 0 0) 0 1 1) 1 1 0) 2 3 2
 
--- P5: a group with all flags set
+-- rule 15.5, P5: a group with all flags set
 unfoldable pub p5 : Kernel
-p5 = after (after started 29 startup 0 0 0 0) 31 startup 0 0xFFFFFFFF 0 0
+p5 = made (made started 29 startup 0 0 0 0) 31 startup 0 0xFFFFFFFF 0 0
 
--- P7: capacity 1 holding A; thread 0 waits to send B, then thread 1 waits to front send C
+-- rule 15.7, P7: capacity 1 holding A; thread 0 waits to send B, then thread 1 waits to front send C
 unfoldable pub p7 : Kernel
 p7 =
-    after (after (after (after (after (after started 22 startup 0 1 1 0) 1 startup 0 10 10 1) 24 thread 0 0 0 0) 24 thread 0 forever 1 0) 1 startup 1 10 10 1)
+    made
+    (made (made (made (made (made started 22 startup 0 1 1 0) 1 startup 0 10 10 1) 24 thread 0 0 0 0) 24 thread 0 forever 1 0)
+    1 startup 1 10 10 1)
     25 thread 0 forever 2 0
 
--- what a receive without waiting gives, and the tables that it leaves
+-- rule 15.7: what a receive without waiting gives, and the tables that it leaves
 unfoldable pub receive : Kernel → Answer
 receive k = said k 26 startup 0 0 0 0
 
--- P8: a pool of 100 bytes with blocks of 16, and a thread that has got blocks 0, 1 and 2. Each byte of the lent area is its own number.
+-- rule 15.8, P8: a pool of 100 bytes with blocks of 16, and a thread that has got blocks 0, 1 and 2
 unfoldable pub p8 : Kernel
 p8 =
-    after (after (after (after (after started 33 startup 0 16 100 0) 1 startup 0 10 10 1) 35 thread 0 0 0 0) 35 thread 0 0 0 0)
+    made (made (made (made (made started 33 startup 0 16 100 0) 1 startup 0 10 10 1) 35 thread 0 0 0 0) 35 thread 0 0 0 0)
     35 thread 0 0 0 0
 
--- a get with wait 1 at count 0, and one tick
+-- rule 15.11: a get with wait 1 at count 0, and one tick
 unfoldable pub timedOutGet : Kernel
-timedOutGet = after (after (withCount 0) 18 thread 0 1 0 0) 15 interrupt 0 0 0 0
+timedOutGet = made (made (withCount 0) 18 thread 0 1 0 0) 15 interrupt 0 0 0 0
 
+-- rules 15.1 to 15.12: the cases
 pub record Cases : Type 0 where
-  -- P1: clock 4,294,967,295, tick: 0
-  pub p1 : after (after started 14 startup 4294967295 0 0 0) 15 interrupt 0 0 0 0 .clock ≡ 0
-  -- P2: count 0xFFFFFFFF, put: count 0
-  pub p2 : semaphoreAt (after (withCount 0xFFFFFFFF) 19 interrupt 0 0 0 0) 0 .count ≡ 0
-  -- P3: 7 changes nothing, 4 runs, it finishes: the runner returns, not 7
-  pub p3 : (runnerOf p3a ≡ 0) × (runnerOf p3b ≡ 2) × (runnerOf (after p3b 7 thread 0 0 0 0) ≡ 0)
-  -- P4: set OR 1: the first two wake holding 1, flags 0, two ended
+  -- rule 15.1: clock 4,294,967,295, after a tick 0
+  pub p1 : made (made started 14 startup 4294967295 0 0 0) 15 interrupt 0 0 0 0 .clock ≡ 0
+  -- rule 15.2: count 0xFFFFFFFF, after a put 0
+  pub p2 : semaphoreAt (made (withCount 0xFFFFFFFF) 19 interrupt 0 0 0 0) 0 .count ≡ 0
+  -- rule 15.3: 7 changes nothing, 4 runs, it finishes, and the runner returns, not 7
+  pub p3 : (runnerOf p3a ≡ 0) × (runnerOf p3b ≡ 2) × (runnerOf (made p3b 7 thread 0 0 0 0) ≡ 0)
+  -- rule 15.4: a set of 1 with option 0: the first two wake and hold 1, no flag is left, two waits ended
   pub p4ended : said p4 31 interrupt 0 1 0 0 .ended ≡ 2
-  pub p4held : (heldAt (after p4 31 interrupt 0 1 0 0) 0 .words ≡ oneWord 1) × (heldAt (after p4 31 interrupt 0 1 0 0) 1 .words ≡ oneWord 1)
-  pub p4flags : groupAt (after p4 31 interrupt 0 1 0 0) 0 .flags ≡ 0
-  -- P5: flags all ones, request 0, wait 0: 0x07
+  pub p4held : (heldWords (heldAt (made p4 31 interrupt 0 1 0 0) 0) ≡ oneWord 1)
+      × (heldWords (heldAt (made p4 31 interrupt 0 1 0 0) 1) ≡ oneWord 1)
+  pub p4flags : groupAt (made p4 31 interrupt 0 1 0 0) 0 .flags ≡ 0
+  -- rule 15.5: a request of 0 with wait 0: 0x07
   pub p5 : said p5 32 startup 0 0 0 0 .status ≡ Statuses.noEvents
-  -- P6: storage 10 of 4-word messages: capacity 2; storage 3: 0x05
-  pub p6 : (capacityOf (queueAt (after started 22 startup 0 4 10 0) 0) ≡ 2) × (said started 22 startup 0 4 3 0 .status ≡ Statuses.sizeError)
-  -- P7: receives give C, A, B
-  pub p7 : (receive p7 .words ≡ oneWord 12) × (receive (receive p7 .kernel) .words ≡ oneWord 10) × (receive (receive (receive p7 .kernel) .kernel) .words ≡ oneWord 11)
-  -- P8: 100 bytes, blocks of 16: 5 blocks; block 2 is bytes 44 to 59; releasing it twice: the second 0x03
+  -- rule 15.6: storage 10 for messages of 4 words, capacity 2; storage 3: 0x05
+  pub p6 : (capacityOf (queueAt (made started 22 startup 0 4 10 0) 0) ≡ 2) × (said started 22 startup 0 4 3 0 .status ≡ Statuses.sizeError)
+  -- rule 15.7: receives give C, A, B
+  pub p7 : (receive p7 .words ≡ oneWord 12) × (receive (receive p7 .kernel) .words ≡ oneWord 10)
+      × (receive (receive (receive p7 .kernel) .kernel) .words ≡ oneWord 11)
+  -- rule 15.8: 5 blocks; block 2 is bytes 44 to 59, each byte of the lent area being its own number; its second release: 0x03
   pub p8blocks : blocksOf (poolAt p8 0) ≡ 5
   pub p8view : blockView p8 0 2 (numbersFrom 0 100) ≡ numbersFrom 44 16
-  pub p8released : (said p8 36 thread 0 2 0 0 .status ≡ Statuses.success) × (said (after p8 36 thread 0 2 0 0) 36 thread 0 2 0 0 .status ≡ Statuses.ptrError)
-  -- P9: waiters of priority 20, 5, 5: prioritise moves the middle one first
-  pub p9line : lineAt (after p9 21 startup 0 0 0 0 .scheduler) (placeOf Kind.semaphore 0) ≡ 1 ∷ 0 ∷ 2 ∷ []
-  -- P10: count 3: ceiling 3 is 0x21, ceiling 4 done
-  pub p10 : (said (withCount 3) 20 interrupt 0 3 0 0 .status ≡ Statuses.ceilingExceeded) × (said (withCount 3) 20 interrupt 0 4 0 0 .status ≡ Statuses.success)
-  -- get, wait 1, count 0, one tick: held 0x0D
+  pub p8released : (said p8 36 thread 0 2 0 0 .status ≡ Statuses.success)
+      × (said (made p8 36 thread 0 2 0 0) 36 thread 0 2 0 0 .status ≡ Statuses.ptrError)
+  -- rule 15.9: prioritise moves the middle one to the front
+  pub p9line : lineAt (made p9 21 startup 0 0 0 0 .scheduler) (placeOf Kind.semaphore 0) ≡ 1 ∷ 0 ∷ 2 ∷ []
+  -- rule 15.10: at count 3 a ceiling of 3 is 0x21, a ceiling of 4 done
+  pub p10 : (said (withCount 3) 20 interrupt 0 3 0 0 .status ≡ Statuses.ceilingExceeded)
+      × (said (withCount 3) 20 interrupt 0 4 0 0 .status ≡ Statuses.success)
+  -- rule 15.11: held 0x0D
   pub timeout : heldAt timedOutGet 0 .status ≡ Statuses.noInstance
-  -- interrupt with wait 1: 0x04 even at count 5
+  -- rule 15.12: an interrupt with wait 1: 0x04 even at count 5
   pub interruptWait : said (withCount 5) 18 interrupt 0 1 0 0 .status ≡ Statuses.waitError

@@ -13,7 +13,7 @@ pub mod Does
 pub mod Effects
 pub mod Uses
 pub mod Calls
+pub mod Refusals
 pub mod Services
 pub mod Claims
-pub mod Records
 pub mod Runs

@@ -20,25 +20,25 @@ use Rattle.kernel.specs.Tables.{threadOf, heldAt, withScheduler, withHel
 use Rattle.kernel.specs.Answers.{Outcome, refused}
 use Rattle.kernel.specs.Kinds.{Kind, Object, placeOf, withObject}
 
--- ---- why a wait ends: it is served by its object, its object is deleted, its last tick has passed, it is aborted
+-- rule 5.4: why a wait ends: its object serves it, its object is deleted, its last tick has passed, it is aborted
 pub data Cause : Type 0 where
   served : Kind → ℕ → Cause
   deleted : Kind → ℕ → Cause
   timedOut : Cause
   aborted : Cause
 
--- the status that it then holds
+-- rule 5.4: the status that the thread then holds
 unfoldable pub statusBy : Cause → Thread → Held → ℕ
 statusBy (served d n) th h = Statuses.success
 statusBy (deleted d n) th h = Statuses.deleted
 statusBy timedOut th h = timeoutStatus th h
 statusBy aborted th h = Statuses.waitAborted
 
--- whoever's wait ends for that cause holds this status
+-- rule 5.4: whoever has its wait ended for that cause holds this status
 abbrev pub Holds : Cause → ℕ → Type 0
 Holds c status = (th : Thread) (h : Held) → statusBy c th h ≡ status
 
--- ---- how a thread changes that leaves its order and joins another, or none
+-- rule 2.10: how a thread changes that leaves its order and joins another, or none
 pub data Move : Type 0 where
   -- its wait ends, and it holds the cause's status and words
   ends : Cause → List ℕ → Move
@@ -49,27 +49,28 @@ pub data Move : Type 0 where
   -- it does not wait, before or after: another record and something else held
   turns : (Thread → Thread) → (Held → Held) → Move
 
--- its record, and what it holds
+-- rule 5.6: the record that the thread then has; where a wait ends it is awake, which is ready or suspended
 unfoldable pub recordBy : Move → Thread → Thread
 recordBy (ends c words) th = awake th
 recordBy (starts front state object ticks h) th = inState state object ticks th
 recordBy stops th = atRest terminated th
 recordBy (turns f g) th = f th
 
+-- rule 5.4: what it then holds
 unfoldable pub heldBy : Move → Thread → Held → Held
 heldBy (ends c words) th h = holding (statusBy c th h) words
 heldBy (starts front state object ticks new) th h = new
 heldBy stops th h = noHeld
 heldBy (turns f g) th h = g h
 
--- it joins at the front
+-- rule 5.2: it joins at the front
 unfoldable pub frontb : Move → Bool
 frontb (ends c words) = false
 frontb (starts front state object ticks h) = front
 frontb stops = false
 frontb (turns f g) = false
 
--- ---- edits
+-- rule 2.10: what a call may do to the tables, piece by piece
 pub data Edit : Type 0 where
   -- thread t leaves its order and joins the one that its new record puts it in
   moves : ℕ → Move → Edit
@@ -84,6 +85,7 @@ pub data Edit : Type 0 where
   -- another clock
   sets : ℕ → Edit
 
+-- rules 2.10, 5.7: the tables after an edit; only a move changes what a thread holds
 unfoldable pub edited : Kernel → Edit → Kernel
 edited k (moves t m) =
     withHeld (withScheduler k (joined (k .scheduler) (frontb m) t (recordBy m (threadOf k t)))) t (heldBy m (threadOf k t) (heldAt k t))
@@ -93,6 +95,7 @@ edited k (ranks d n) = withScheduler k (prioritisedAt (k .scheduler) (placeOf d 
 edited k (stores d n x) = withObject d k n x
 edited k (sets c) = withClock k c
 
+-- rule 2.10: the tables after all edits, in order
 unfoldable pub applied : Kernel → List Edit → Kernel
 applied k [] = k
 applied k (e ∷ es) = applied (edited k e) es
@@ -102,7 +105,7 @@ unfoldable pub gathered : (Edit → List ℕ) → List Edit → List ℕ
 gathered f [] = []
 gathered f (e ∷ es) = f e ++ gathered f es
 
--- ---- who moves in some way: by one edit, and by all
+-- rules 2.8, 2.10: who moves in some way by one edit, if anybody
 abbrev pub mover : (Move → Bool) → Edit → List ℕ
 mover c (moves t m) = onlyIf (c m) t
 mover c (alters t f) = []
@@ -111,14 +114,15 @@ mover c (ranks d n) = []
 mover c (stores d n x) = []
 mover c (sets n) = []
 
+-- rules 2.8, 2.10: all who move in some way, in order
 abbrev pub movers : (Move → Bool) → List Edit → List ℕ
 movers c es = gathered (mover c) es
 
--- whoever moves
+-- rule 2.10: any move counts
 abbrev pub anyb : Move → Bool
 anyb m = true
 
--- whose timed waits have one tick less
+-- whose timed wait one edit takes a tick from, if anybody
 abbrev pub countedBy : Edit → List ℕ
 countedBy (moves t m) = []
 countedBy (alters t f) = []
@@ -127,16 +131,18 @@ countedBy (ranks d n) = []
 countedBy (stores d n x) = []
 countedBy (sets n) = []
 
+-- all from whose timed waits a tick is taken
 abbrev pub counted : List Edit → List ℕ
 counted es = gathered countedBy es
 
--- a wait ends with a status; a wait begins
+-- rule 2.8: a wait ends with a status, so it is counted; the wait of a thread that is terminated does not
 unfoldable pub endsb : Move → Bool
 endsb (ends c words) = true
 endsb (starts front state object ticks h) = false
 endsb stops = false
 endsb (turns f g) = false
 
+-- a wait or sleep begins
 unfoldable pub startsb : Move → Bool
 startsb (ends c words) = false
 startsb (starts front state object ticks h) = true
@@ -147,7 +153,7 @@ startsb (turns f g) = false
 abbrev pub sameb : Place → Place → Bool
 sameb p q = eqb (p .state) (q .state) && eqb (p .number) (q .number)
 
--- it takes a waiter out of the line of p
+-- it may take a waiter out of the line of p; one that ends for another object does not
 unfoldable pub leavesb : Place → Move → Bool
 leavesb p (ends (served d n) words) = sameb p (placeOf d n)
 leavesb p (ends (deleted d n) words) = sameb p (placeOf d n)
@@ -157,7 +163,7 @@ leavesb p (starts front state object ticks h) = false
 leavesb p stops = true
 leavesb p (turns f g) = false
 
--- ---- the line of a place after an edit, and after all
+-- rule 2.10: the line of a place after an edit
 unfoldable pub lineBy : Kernel → Edit → Place → List ℕ → List ℕ
 lineBy k (moves t m) p l =
     if frontb m
@@ -169,30 +175,32 @@ lineBy k (ranks d n) p l = if sameb p (placeOf d n) then prioritised (priorityAt
 lineBy k (stores d n x) p l = l
 lineBy k (sets c) p l = l
 
+-- rule 2.10: the line of a place after all edits
 unfoldable pub linesBy : Kernel → List Edit → Place → List ℕ → List ℕ
 linesBy k [] p l = l
 linesBy k (e ∷ es) p l = linesBy (edited k e) es p (lineBy k e p l)
 
 -- ---- a call that is carried out
--- with 0x00, with 0x19 or with 0x101
+-- rule 2.3: how it succeeds: with 0x00, with 0x19 or with 0x101
 pub data Success : Type 0 where
   done : Success
   lifted : Success
   waits : Success
 
+-- rule 2.3: its status
 unfoldable pub statusOf : Success → ℕ
 statusOf done = Statuses.success
 statusOf lifted = Statuses.suspendLifted
 statusOf waits = Statuses.waiting
 
--- how it succeeds, its words, whether the runner relinquishes, and its edits
+-- rule 2.10: how a call succeeds, its words, whether the runner relinquishes, and its edits
 pub record Effect : Type 0 where
   pub success : Success
   pub words : List ℕ
   pub relinquishes : Bool
   pub edits : List Edit
 
--- the edits, the choice of the next thread, and the threads whose waits end
+-- rules 2.7, 2.8, 2.10, 4.7: the edits, then the choice of the next thread, once; and the threads whose waits ended
 unfoldable pub carriedOut : Kernel → Effect → Outcome
 carriedOut k e =
     record {
@@ -202,6 +210,6 @@ carriedOut k e =
       kernel = withScheduler (applied k (e .edits)) (rescheduled (applied k (e .edits) .scheduler) (e .relinquishes));
     }
 
--- refused for the first reason that holds, otherwise carried out
+-- rules 2.7, 3.13: refused for the first reason that holds, otherwise carried out; 0 stands for no reason
 unfoldable pub guarded : Kernel → ℕ → Effect → Outcome
 guarded k reason e = if eqb reason 0 then carriedOut k e else refused k reason

@@ -1,82 +1,94 @@
--- The general call.
+-- The general call: the effect of each call, and the answer to a request (rules 2.5 to 2.7).
 use mathlib.Core.List.{List}
-use mathlib.Core.Bool.{Bool, true, false, _&&_, not}
+use mathlib.Core.Bool.{true, false}
 use Prim.Native.Nat.{ℕ}
-use lib.Dec.{eqb, ltb}
-use lib.ListN.{length}
 use Rattle.lines.specs.Logic.{if_then_else_}
-use Rattle.lines.specs.Lists.{nobody}
+use Rattle.numbers.specs.Numbers.{nobody}
 use Rattle.scheduler.specs.Threads.{completed, suspended}
 use Rattle.objects.specs.Queues.{emptyQueue}
 use Rattle.objects.specs.Groups.{groupWith}
 use Rattle.blocks.specs.Pools.{freshPool}
 use Rattle.calls.specs.Held.{noWords}
 use Rattle.calls.specs.Messages.{messageIn}
-use Rattle.calls.specs.Refusals.{createRefusal, deleteRefusal, resumeRefusal, suspendRefusal, terminateRefusal, resetRefusal, setRefusal, threadOnlyRefusal, abortRefusal, priorityRefusal, preemptionRefusal, tickRefusal, semaphoreCreateRefusal, semaphoreDeleteRefusal, semaphoreGetRefusal, semaphoreRefusal, ceilingRefusal, queueCreateRefusal, queueDeleteRefusal, sendRefusal, receiveRefusal, queueRefusal, groupCreateRefusal, groupDeleteRefusal, getRefusal, poolCreateRefusal, poolDeleteRefusal, allocateRefusal, releaseRefusal, poolRefusal, readRefusal}
-use Rattle.kernel.specs.declared.Answer.{Answer}
-use Rattle.kernel.specs.Sound.{soundb}
-use Rattle.calls.specs.Calls.{thread, decoded}
+use Rattle.calls.specs.Calls.{decoded}
 use Rattle.calls.specs.Statuses as Statuses
+use Rattle.calls.specs.declared.call.Request.{Request}
 use Rattle.calls.specs.declared.call.Call.{Call}
-use Rattle.calls.specs.declared.call.Call.the-variants.{ThreadCreate, ThreadDelete, ThreadResume, ThreadSuspend, ThreadTerminate, ThreadReset, ThreadFinish, ThreadRelinquish, ThreadSleep, ThreadWaitAbort, ThreadPriorityChange, ThreadPreemptionChange, TimeGet, TimeSet, Tick, SemaphoreCreate, SemaphoreDelete, SemaphoreGet, SemaphorePut, SemaphoreCeilingPut, SemaphorePrioritize, QueueCreate, QueueDelete, QueueSend, QueueFrontSend, QueueReceive, QueueFlush, QueuePrioritize, EventFlagsCreate, EventFlagsDelete, EventFlagsSet, EventFlagsGet, BlockPoolCreate, BlockPoolDelete, BlockAllocate, BlockRelease, BlockPoolPrioritize, ThreadStateRead, ThreadWordsRead}
+use Rattle.calls.specs.declared.call.Call.the-variants.{
+  ThreadCreate,
+  ThreadDelete,
+  ThreadResume,
+  ThreadSuspend,
+  ThreadTerminate,
+  ThreadReset,
+  ThreadFinish,
+  ThreadRelinquish,
+  ThreadSleep,
+  ThreadWaitAbort,
+  ThreadPriorityChange,
+  ThreadPreemptionChange,
+  TimeGet,
+  TimeSet,
+  Tick,
+  SemaphoreCreate,
+  SemaphoreDelete,
+  SemaphoreGet,
+  SemaphorePut,
+  SemaphoreCeilingPut,
+  SemaphorePrioritize,
+  QueueCreate,
+  QueueDelete,
+  QueueSend,
+  QueueFrontSend,
+  QueueReceive,
+  QueueFlush,
+  QueuePrioritize,
+  EventFlagsCreate,
+  EventFlagsDelete,
+  EventFlagsSet,
+  EventFlagsGet,
+  BlockPoolCreate,
+  BlockPoolDelete,
+  BlockAllocate,
+  BlockRelease,
+  BlockPoolPrioritize,
+  ThreadStateRead,
+  ThreadWordsRead,
+}
 use Rattle.calls.specs.declared.call.Decoded.{Decoded}
 use Rattle.calls.specs.declared.call.Decoded.the-variants.{Known, Unknown}
 use Rattle.kernel.specs.declared.Kernel.{Kernel}
-use Rattle.kernel.specs.Tables.{threadOf, runnerOf, semaphoreAt, queueAt, groupAt, poolAt}
+use Rattle.kernel.specs.declared.Answer.{Answer}
+use Rattle.kernel.specs.Sound.{soundb}
+use Rattle.kernel.specs.Tables.{runnerOf, queueAt}
 use Rattle.kernel.specs.Answers.{Outcome, answerOf, refused}
+use Rattle.kernel.specs.Refusals.{reasonOf}
 use Rattle.kernel.specs.Kinds.Kind.{semaphore, queue, group, pool}
 use Rattle.kernel.specs.Edits.{Effect, guarded}
 use Rattle.kernel.specs.Effects.{storeEffect, removeEffect, rankEffect, counting}
-use Rattle.kernel.specs.Threads.{createEffect, deleteEffect, resumeEffect, suspendEffect, terminateEffect, restEffect, relinquishEffect, sleepEffect, abortEffect, priorityEffect, preemptionEffect, stateEffect, wordsEffect}
+use Rattle.kernel.specs.Threads.{
+  createEffect,
+  deleteEffect,
+  resumeEffect,
+  suspendEffect,
+  terminateEffect,
+  restEffect,
+  relinquishEffect,
+  sleepEffect,
+  abortEffect,
+  priorityEffect,
+  preemptionEffect,
+  stateEffect,
+  wordsEffect,
+}
 use Rattle.kernel.specs.Clock.{clockEffect, clockSetEffect, tickEffect}
 use Rattle.kernel.specs.Semaphores.{semaphoreGetEffect, putEffect}
 use Rattle.kernel.specs.Queues.{sendEffect, receiveEffect, flushEffect}
 use Rattle.kernel.specs.Groups.{setEffect, flagsGetEffect}
 use Rattle.kernel.specs.Pools.{allocateEffect, releaseEffect}
 
--- ---- the first reason to refuse a call of a known caller; 0 where there is none
-unfoldable pub reasonOf : Kernel → ℕ → Call → List ℕ → ℕ
-reasonOf k caller (ThreadCreate t p h start) messages = createRefusal (t .0) (threadOf k (t .0)) p h start caller
-reasonOf k caller (ThreadDelete t) messages = deleteRefusal (threadOf k (t .0)) caller
-reasonOf k caller (ThreadResume t) messages = resumeRefusal (threadOf k (t .0))
-reasonOf k caller (ThreadSuspend t) messages = suspendRefusal (threadOf k (t .0))
-reasonOf k caller (ThreadTerminate t) messages = terminateRefusal (threadOf k (t .0)) caller
-reasonOf k caller (ThreadReset t) messages = resetRefusal (threadOf k (t .0)) caller
-reasonOf k caller ThreadFinish messages = threadOnlyRefusal caller
-reasonOf k caller ThreadRelinquish messages = threadOnlyRefusal caller
-reasonOf k caller (ThreadSleep ticks) messages = threadOnlyRefusal caller
-reasonOf k caller (ThreadWaitAbort t) messages = abortRefusal (threadOf k (t .0))
-reasonOf k caller (ThreadPriorityChange t p) messages = priorityRefusal (threadOf k (t .0)) p caller
-reasonOf k caller (ThreadPreemptionChange t h) messages = preemptionRefusal (threadOf k (t .0)) h caller
-reasonOf k caller TimeGet messages = 0
-reasonOf k caller (TimeSet time) messages = 0
-reasonOf k caller Tick messages = tickRefusal caller
-reasonOf k caller (SemaphoreCreate n count) messages = semaphoreCreateRefusal (n .0) (semaphoreAt k (n .0)) caller
-reasonOf k caller (SemaphoreDelete n) messages = semaphoreDeleteRefusal (semaphoreAt k (n .0)) caller
-reasonOf k caller (SemaphoreGet n wait) messages = semaphoreGetRefusal (semaphoreAt k (n .0)) wait caller
-reasonOf k caller (SemaphorePut n) messages = semaphoreRefusal (semaphoreAt k (n .0))
-reasonOf k caller (SemaphoreCeilingPut n ceiling) messages = ceilingRefusal (semaphoreAt k (n .0)) ceiling
-reasonOf k caller (SemaphorePrioritize n) messages = semaphoreRefusal (semaphoreAt k (n .0))
-reasonOf k caller (QueueCreate n words storage) messages = queueCreateRefusal (n .0) (queueAt k (n .0)) words storage caller
-reasonOf k caller (QueueDelete n) messages = queueDeleteRefusal (queueAt k (n .0)) caller
-reasonOf k caller (QueueSend n wait index) messages = sendRefusal (queueAt k (n .0)) index (length messages) wait caller
-reasonOf k caller (QueueFrontSend n wait index) messages = sendRefusal (queueAt k (n .0)) index (length messages) wait caller
-reasonOf k caller (QueueReceive n wait) messages = receiveRefusal (queueAt k (n .0)) wait caller
-reasonOf k caller (QueueFlush n) messages = queueRefusal (queueAt k (n .0))
-reasonOf k caller (QueuePrioritize n) messages = queueRefusal (queueAt k (n .0))
-reasonOf k caller (EventFlagsCreate n) messages = groupCreateRefusal (n .0) (groupAt k (n .0)) caller
-reasonOf k caller (EventFlagsDelete n) messages = groupDeleteRefusal (groupAt k (n .0)) caller
-reasonOf k caller (EventFlagsSet n flags option) messages = setRefusal (groupAt k (n .0)) option
-reasonOf k caller (EventFlagsGet n request option wait) messages = getRefusal (groupAt k (n .0)) request option wait caller
-reasonOf k caller (BlockPoolCreate n block total) messages = poolCreateRefusal (n .0) (poolAt k (n .0)) block total caller
-reasonOf k caller (BlockPoolDelete n) messages = poolDeleteRefusal (poolAt k (n .0)) caller
-reasonOf k caller (BlockAllocate n wait) messages = allocateRefusal (poolAt k (n .0)) wait caller
-reasonOf k caller (BlockRelease n block) messages = releaseRefusal (poolAt k (n .0)) block
-reasonOf k caller (BlockPoolPrioritize n) messages = poolRefusal (poolAt k (n .0))
-reasonOf k caller (ThreadStateRead t) messages = readRefusal (threadOf k (t .0))
-reasonOf k caller (ThreadWordsRead t) messages = readRefusal (threadOf k (t .0))
-
--- ---- what a call does that is not refused; a send takes its message from the lent area
+-- ---- effects
+-- rule 2.7: what a call does that is not refused; a send takes its message from the lent words
 unfoldable pub effectOf : Kernel → Call → List ℕ → Effect
 effectOf k (ThreadCreate t p h start) messages = createEffect (t .0) p h start
 effectOf k (ThreadDelete t) messages = deleteEffect (t .0)
@@ -119,31 +131,20 @@ effectOf k (ThreadStateRead t) messages = stateEffect k (t .0)
 effectOf k (ThreadWordsRead t) messages = wordsEffect k (t .0)
 
 -- ---- the answer
--- refused for the first reason that holds, otherwise carried out
-unfoldable pub service : Kernel → ℕ → Call → List ℕ → Outcome
-service k caller call messages = guarded k (reasonOf k caller call messages) (effectOf k call messages)
+-- rules 2.6, 2.7: a request for a known call is refused for the first reason of the table that holds, else the call's effect is carried
+-- out and the next thread chosen once; any other request is refused as unknown
+unfoldable pub stepOf : Kernel → Request → Decoded → List ℕ → Outcome
+stepOf k q (Known call) messages = guarded k (reasonOf k q messages) (effectOf k call messages)
+stepOf k q Unknown messages = refused k Statuses.unknownCall
 
--- "0x102: caller 2 and nobody runs"
-abbrev pub nobodyRunsb : ℕ → ℕ → Bool
-nobodyRunsb caller running = eqb caller thread && not (ltb running 32)
+-- rule 2.6: one call on sound tables: a request and the lent message words
+unfoldable pub step : Kernel → Request → List ℕ → Outcome
+step k q messages = stepOf k q (decoded q) messages
 
--- it comes before every other reason of a known call
-unfoldable pub byCaller : Kernel → ℕ → Call → List ℕ → Outcome
-byCaller k caller call messages = if nobodyRunsb caller (runnerOf k) then refused k Statuses.nobodyRuns else service k caller call messages
-
--- "0x104: call number or caller kind unknown"
-unfoldable pub byRecord : Kernel → ℕ → Decoded → List ℕ → Outcome
-byRecord k caller (Known call) messages = byCaller k caller call messages
-byRecord k caller Unknown messages = refused k Statuses.unknownCall
-
--- one call on sound tables: number, caller, four arguments and the lent message area
-unfoldable pub step : Kernel → ℕ → ℕ → ℕ → ℕ → ℕ → ℕ → List ℕ → Outcome
-step k number caller a b c d messages = byRecord k caller (decoded number caller a b c d) messages
-
--- "0x100: tables unsound": the tables as they are, next thread none
+-- rule 2.5: unsound tables are handed back as they are, and nobody runs next
 unfoldable pub unsound : Kernel → Answer
 unsound k = record { status = Statuses.tablesUnsound; words = noWords; next = record { 0 = nobody }; ended = 0; kernel = k }
 
--- the general call: number, caller, four arguments and the lent message area
-unfoldable pub call : Kernel → ℕ → ℕ → ℕ → ℕ → ℕ → ℕ → List ℕ → Answer
-call k number caller a b c d messages = if soundb k then answerOf (step k number caller a b c d messages) else unsound k
+-- rule 2.5: the general call: unsound tables are refused before anything else
+unfoldable pub call : Kernel → Request → List ℕ → Answer
+call k q messages = if soundb k then answerOf (step k q messages) else unsound k

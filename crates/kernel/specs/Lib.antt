@@ -1,5 +1,6 @@
 pub mod Tables
 pub mod Answers
+pub mod Loops
 pub mod Kinds
 pub mod Sound
 pub mod Edits
@@ -12,6 +13,8 @@ pub mod Queues
 pub mod Groups
 pub mod Pools
 pub mod Uses
+pub mod Refusals
+pub mod Chains
 pub mod General
 pub mod Claims
 pub mod Views

@@ -3,8 +3,10 @@ use mathlib.Core.List.{List, [], _∷_}
 use mathlib.Core.Bool.{Bool, true, false, _&&_, _||_}
 use Prim.Native.Nat.{ℕ}
 use lib.Dec.{eqb, ltb}
+use Rattle.numbers.specs.Numbers.{threads}
 use Rattle.lines.specs.Logic.{if_then_else_, implies}
 use Rattle.scheduler.specs.Threads.{onQueue}
+use Rattle.calls.specs.Callers.{oneOf}
 use Rattle.kernel.specs.Kinds.{Kind, sizeOf}
 use Rattle.kernel.specs.Kinds.Kind.{semaphore, queue, group, pool}
 use Rattle.kernel.specs.Edits.{Move, Edit}
@@ -12,7 +14,7 @@ use Rattle.kernel.specs.Edits.Cause.{served, deleted, timedOut, aborted}
 use Rattle.kernel.specs.Edits.Move.{ends, starts, stops, turns}
 use Rattle.kernel.specs.Edits.Edit.{moves, alters, counts, ranks, stores, sets}
 
--- the calls that create an object, delete it, take from it, give to it, prioritise its line, empty it
+-- rule 2.11: the calls that create an object, delete it, take from it, give to it, prioritise its line, empty it
 pub record Row : Type 0 where
   pub creates : List ℕ
   pub deletes : List ℕ
@@ -21,25 +23,27 @@ pub record Row : Type 0 where
   pub prioritises : List ℕ
   pub empties : List ℕ
 
+-- rules 2.11, 13.2: these calls of each kind, by number
 abbrev pub rowOf : Kind → Row
-rowOf semaphore = record { creates = 16 ∷ []; deletes = 17 ∷ []; takes = 18 ∷ []; gives = 19 ∷ 20 ∷ []; prioritises = 21 ∷ []; empties = [] }
-rowOf queue = record { creates = 22 ∷ []; deletes = 23 ∷ []; takes = 26 ∷ []; gives = 24 ∷ 25 ∷ []; prioritises = 28 ∷ []; empties = 27 ∷ [] }
-rowOf group = record { creates = 29 ∷ []; deletes = 30 ∷ []; takes = 32 ∷ []; gives = 31 ∷ []; prioritises = []; empties = [] }
-rowOf pool = record { creates = 33 ∷ []; deletes = 34 ∷ []; takes = 35 ∷ []; gives = 36 ∷ []; prioritises = 37 ∷ []; empties = [] }
+rowOf semaphore =
+    record { creates = 16 ∷ []; deletes = 17 ∷ []; takes = 18 ∷ []; gives = 19 ∷ 20 ∷ []; prioritises = 21 ∷ []; empties = [] }
+rowOf queue =
+    record { creates = 22 ∷ []; deletes = 23 ∷ []; takes = 26 ∷ []; gives = 24 ∷ 25 ∷ []; prioritises = 28 ∷ []; empties = 27 ∷ [] }
+rowOf group =
+    record { creates = 29 ∷ []; deletes = 30 ∷ []; takes = 32 ∷ []; gives = 31 ∷ []; prioritises = []; empties = [] }
+rowOf pool =
+    record { creates = 33 ∷ []; deletes = 34 ∷ []; takes = 35 ∷ []; gives = 36 ∷ []; prioritises = 37 ∷ []; empties = [] }
 
--- a number is one of a list
-abbrev pub oneOf : ℕ → List ℕ → Bool
-oneOf n [] = false
-oneOf n (m ∷ ms) = eqb n m || oneOf n ms
-
--- the kind of object that a call's first argument names, and how many such objects, or else threads, there are
+-- the kind of object that the first argument of calls 16 to 37 names; no row has any other number
 abbrev pub kindOf : ℕ → Kind
 kindOf n = if ltb n 22 then semaphore else if ltb n 29 then queue else if ltb n 33 then group else pool
 
+-- rule 2.11: how many objects of that kind there are, for calls 16 to 37; for all others how many threads
 unfoldable pub limitOf : ℕ → ℕ
-limitOf n = if ltb n 16 then 32 else if ltb n 38 then sizeOf (kindOf n) else 32
+limitOf n = if ltb n 16 then threads else if ltb n 38 then sizeOf (kindOf n) else threads
 
--- ---- what the call of number n whose first argument is a may do
+-- ---- what a call may do
+-- rule 2.11: a move of thread t by the call of number n whose first argument is a
 unfoldable pub mayMoveb : ℕ → ℕ → ℕ → Move → Bool
 -- a wait ends as served only by a call that gives to the object, takes from it (a sender's) or empties it
 mayMoveb n a t (ends (served d i) words) = eqb i a && (oneOf n (rowOf d .gives) || oneOf n (rowOf d .takes) || oneOf n (rowOf d .empties))
@@ -51,16 +55,22 @@ mayMoveb n a t (starts front state object ticks h) = implies front (eqb n 25 && 
 mayMoveb n a t stops = eqb n 5 && eqb t a
 mayMoveb n a t (turns f g) = true
 
+-- rule 2.11: an edit by that call
 unfoldable pub mayb : ℕ → ℕ → Edit → Bool
 mayb n a (moves t m) = mayMoveb n a t m
 mayb n a (alters t f) = true
 mayb n a (counts t) = eqb n 15
 mayb n a (ranks d i) = eqb i a && oneOf n (rowOf d .prioritises)
 mayb n a (stores d i x) =
-    eqb i a && (oneOf n (rowOf d .creates) || oneOf n (rowOf d .deletes) || oneOf n (rowOf d .takes) || oneOf n (rowOf d .gives) || oneOf n (rowOf d .empties))
+    eqb i a
+    && (oneOf n (rowOf d .creates)
+    || oneOf n (rowOf d .deletes)
+    || oneOf n (rowOf d .takes)
+    || oneOf n (rowOf d .gives)
+    || oneOf n (rowOf d .empties))
 mayb n a (sets c) = eqb n 14 || eqb n 15
 
--- a test of every edit
+-- rule 2.11: a test of every edit
 unfoldable pub allb : (Edit → Bool) → List Edit → Bool
 allb f [] = true
 allb f (e ∷ es) = f e && allb f es

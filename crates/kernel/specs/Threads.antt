@@ -5,11 +5,10 @@ use Prim.Native.Nat.{ℕ, min}
 use lib.Dec.{eqb}
 use Rattle.lines.specs.Logic.{if_then_else_}
 use Rattle.scheduler.specs.declared.thread.Thread.{Thread}
-use Rattle.scheduler.specs.Threads.{ready, suspended, asleep, uncreated, readyb, pausedb, atRest, withSuspension, created}
+use Rattle.scheduler.specs.Threads.{ready, suspended, asleep, uncreated, readyb, pausedb, finishedb, atRest, withSuspension, created}
 use Rattle.scheduler.specs.Changes.{withLevels}
 use Rattle.calls.specs.declared.held.Held.{Held}
-use Rattle.calls.specs.Held.{noWords, oneWord, twoWords, noHeld, waiting}
-use Rattle.calls.specs.Refusals.{finishedb}
+use Rattle.calls.specs.Held.{noWords, oneWord, twoWords, noHeld, heldWaiting, heldWords}
 use Rattle.kernel.specs.declared.Kernel.{Kernel}
 use Rattle.kernel.specs.Tables.{threadOf, runnerOf, heldAt}
 use Rattle.kernel.specs.Edits.{Success, Effect}
@@ -18,72 +17,76 @@ use Rattle.kernel.specs.Edits.Move.{ends, stops, turns}
 use Rattle.kernel.specs.Edits.Edit.{moves, alters}
 use Rattle.kernel.specs.Effects.{gives, does, begins}
 
--- a thread keeps what it holds; it holds nothing
+-- rule 5.7: a thread keeps what it holds
 abbrev pub keeps : Held → Held
 keeps h = h
 
+-- rules 6.1, 6.4: it holds nothing any more
 abbrev pub clears : Held → Held
 clears h = noHeld
 
--- 1 create: suspended, or ready where start is 1; nothing held
+-- rule 6.1: call 1, create: suspended, or ready where start is 1; nothing held
 unfoldable pub createEffect : ℕ → ℕ → ℕ → ℕ → Effect
 createEffect t p h start = does (moves t (turns (λ th. created (if eqb start 1 then ready else suspended) p h) clears) ∷ [])
 
--- 2 delete: the record is zero
+-- rule 6.1: call 2, delete: the record is zero
 unfoldable pub deleteEffect : ℕ → Effect
 deleteEffect t = does (moves t (turns (λ th. uncreated) clears) ∷ [])
 
--- 3 resume: a held suspension is lifted, with 0x19; a suspended thread is ready
+-- rule 6.2: call 3, resume: a held suspension is lifted, with 0x19; a suspended thread is ready
 unfoldable pub resumeEffect : Kernel → ℕ → Effect
 resumeEffect k t =
     if threadOf k t .suspending
     then record { success = Success.lifted; words = noWords; relinquishes = false; edits = alters t (withSuspension false) ∷ [] }
     else does (moves t (turns (atRest ready) keeps) ∷ [])
 
--- 4 suspend: held until the wait ends; a ready thread is suspended at once, a suspended one stays so
+-- rule 6.3: call 4, suspend: of a waiter or sleeper held until its wait ends; a ready thread is suspended at once, a suspended one stays so
 unfoldable pub suspendEffect : Kernel → ℕ → Effect
 suspendEffect k t =
     if pausedb (threadOf k t) then does (alters t (withSuspension true) ∷ [])
     else if readyb (threadOf k t) then does (moves t (turns (atRest suspended) keeps) ∷ [])
     else does []
 
--- 5 terminate: no change to a finished thread, else terminated, and what it held is cleared
+-- rule 6.4: call 5, terminate: no change to a finished thread; any other is terminated, and what it held is cleared
 unfoldable pub terminateEffect : Kernel → ℕ → Effect
 terminateEffect k t = if finishedb (threadOf k t) then does [] else does (moves t stops ∷ [])
 
--- 6 reset gives suspended, 7 finish completed; priority and threshold are kept, and what the thread held is cleared
+-- rule 6.4: call 6, reset, with the state suspended, and call 7, finish, with completed: priority and threshold are kept, and what the
+-- thread held is cleared
 unfoldable pub restEffect : ℕ → ℕ → Effect
 restEffect t state = does (moves t (turns (atRest state) clears) ∷ [])
 
--- 8 relinquish: to the end of its order, and another choice follows
+-- rule 4.6: call 8, relinquish: to the end of its order, and the runner does not count as staying in the choice that follows
 unfoldable pub relinquishEffect : Kernel → Effect
 relinquishEffect k =
     record { success = Success.done; words = noWords; relinquishes = true; edits = moves (runnerOf k) (turns (λ th. th) keeps) ∷ [] }
 
--- 9 sleep: 0 does nothing
+-- rule 6.5: call 9, sleep: 0 does nothing
 unfoldable pub sleepEffect : Kernel → ℕ → Effect
-sleepEffect k ticks = if eqb ticks 0 then does [] else begins k false asleep 0 ticks waiting
+sleepEffect k ticks = if eqb ticks 0 then does [] else begins k false asleep 0 ticks heldWaiting
 
--- 10 wait abort
+-- rule 6.11: call 10, wait abort
 unfoldable pub abortEffect : ℕ → Effect
 abortEffect t = does (moves t (ends aborted noWords) ∷ [])
 
--- 11 priority change: word 0 is the old priority; a ready thread joins the end of its new order, another keeps its place
+-- rule 6.6: another priority, and the smaller of it and the old threshold
 abbrev pub lowered : ℕ → Thread → Thread
 lowered p th = withLevels p (min (th .threshold) p) th
 
+-- rule 6.6: call 11, priority change: word 0 is the old priority; a ready thread joins the end of its new order, another keeps its place
 unfoldable pub priorityEffect : Kernel → ℕ → ℕ → Effect
 priorityEffect k t p =
     gives (oneWord (threadOf k t .priority))
     (if readyb (threadOf k t) then moves t (turns (lowered p) keeps) ∷ [] else alters t (lowered p) ∷ [])
 
--- 12 preemption change: word 0 is the old threshold
+-- rule 6.7: call 12, preemption change: word 0 is the old threshold
 unfoldable pub preemptionEffect : Kernel → ℕ → ℕ → Effect
 preemptionEffect k t h = gives (oneWord (threadOf k t .threshold)) (alters t (λ th. withLevels (th .priority) h th) ∷ [])
 
--- 38 reads a thread's state and held status, 39 its held words
+-- rule 6.8: call 38 reads a thread's state and held status
 unfoldable pub stateEffect : Kernel → ℕ → Effect
 stateEffect k t = gives (twoWords (threadOf k t .state) (heldAt k t .status)) []
 
+-- rule 6.8: call 39 reads a thread's held words
 unfoldable pub wordsEffect : Kernel → ℕ → Effect
-wordsEffect k t = gives (heldAt k t .words) []
+wordsEffect k t = gives (heldWords (heldAt k t)) []

@@ -10,18 +10,18 @@ use Rattle.kernel.specs.declared.Kernel.{Kernel}
 use Rattle.kernel.specs.Tables.{poolAt}
 use Rattle.kernel.specs.Sound.{soundb}
 
--- pool n of sound tables; "for unsound tables, no such pool", one that is not created, of which no block is shown
+-- rule 10.5: pool n of sound tables; of unsound ones a pool that is not created, of which no block is shown
 unfoldable pub viewedPool : Kernel → ℕ → Pool
 viewedPool k n = if soundb k then poolAt k n else noPool
 
--- where a block of pool n lies in an area of len bytes
+-- rule 10.6: where a block of pool n lies in an area of len bytes
 unfoldable pub blockExtent : Kernel → ℕ → ℕ → ℕ → Extent
 blockExtent k n block len = extentOf (viewedPool k n) block len
 
--- "A shower of blocks returns the block as a part of the lent pool area"
+-- rule 10.5: a block of pool n as a part of the lent area
 unfoldable pub blockView : Kernel → ℕ → ℕ → List ℕ → List ℕ
 blockView k n block area = viewed (viewedPool k n) block area
 
--- the area after bytes are written to the front of a block of pool n
+-- rule 10.7: the area after bytes are written to the front of a block of pool n
 unfoldable pub blockWritten : Kernel → ℕ → ℕ → List ℕ → List ℕ → List ℕ
 blockWritten k n block bytes area = written (viewedPool k n) block bytes area

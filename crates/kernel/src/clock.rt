@@ -1,6 +1,6 @@
 // Clock services.
 ghost use mathlib.Core.Path.{_≡_};
-ghost use Rattle.calls.specs.Refusals.{tickRefusal};
+ghost use Rattle.calls.specs.Chains.{tickRefusal};
 ghost use Rattle.kernel.specs.Answers.{answerOf};
 ghost use Rattle.kernel.specs.Edits.{guarded};
 ghost use Rattle.kernel.specs.Clock.{clockEffect, clockSetEffect, tickEffect};
@@ -10,7 +10,9 @@ use super::two_words;
 use calls::held::Held;
 use calls::refusal;
 use calls::status::SUCCESS;
-use lines::ThreadId;
+use numbers::MESSAGE_WORDS;
+use numbers::THREADS;
+use numbers::ThreadId;
 use waiting::ticks::is_last_tick;
 use waiting::ticks::is_timed;
 use waiting::ticks::timeout_status;
@@ -30,7 +32,7 @@ impl Kernel {
     {
         let s = self.scheduler;
         self.clock = time;
-        self.carried(s, SUCCESS, [0; 16], 0)
+        self.carried(s, SUCCESS, [0; MESSAGE_WORDS], 0)
     }
 
     // The clock goes up by one, and every timed wait has one tick less.
@@ -46,12 +48,12 @@ impl Kernel {
         let mut s = k.scheduler;
         let mut ended: u32 = 0;
         let mut t: usize = 0;
-        while t < 32 {
+        while t < THREADS {
             let i = t;
             let th = s.threads[i];
             t += 1;
             if is_last_tick(th) {
-                let h = Held::of(timeout_status(th, k.held[i]), [0; 16]);
+                let h = Held::of(timeout_status(th, k.held[i]), [0; MESSAGE_WORDS]);
                 k.held[i] = h;
                 s = s.woken(ThreadId(i as u8));
                 ended += 1;
@@ -61,6 +63,6 @@ impl Kernel {
             }
         }
         k.clock = time;
-        k.carried(s, SUCCESS, [0; 16], ended)
+        k.carried(s, SUCCESS, [0; MESSAGE_WORDS], ended)
     }
 }

@@ -2,10 +2,10 @@
 ghost use mathlib.Core.Path.{_≡_};
 ghost use lib.ListN.{getD, set};
 ghost use Rattle.objects.specs.Groups.{noGroup, groupWith};
-ghost use Rattle.calls.specs.Refusals.{groupCreateRefusal, groupDeleteRefusal, setRefusal, getRefusal};
+ghost use Rattle.calls.specs.Chains.{groupCreateRefusal, groupDeleteRefusal, setRefusal, getRefusal};
 ghost use Rattle.kernel.specs.Tables.{groupAt};
 ghost use Rattle.kernel.specs.Answers.{answerOf};
-ghost use Rattle.kernel.specs.Kinds.{Kind, placeOf};
+ghost use Rattle.kernel.specs.Kinds.{Kind};
 ghost use Rattle.kernel.specs.Edits.{carriedOut, guarded};
 ghost use Rattle.kernel.specs.Effects.{storeEffect, removeEffect};
 ghost use Rattle.kernel.specs.Groups.{setOrEffect, setEffect, flagsGetEffect};
@@ -19,43 +19,35 @@ use calls::refusal;
 use calls::status::DELETED;
 use calls::status::SUCCESS;
 use calls::status::WAITING;
-use lines::ThreadId;
 use matching::woken;
+use numbers::GROUPS;
+use numbers::GroupId;
+use numbers::MESSAGE_WORDS;
+use numbers::THREADS;
+use numbers::ThreadId;
 use objects::group::Group;
-use objects::group::GroupId;
 use objects::group::cleared_by;
 use objects::group::is_met;
 use objects::group::less;
-use scheduler::thread::ON_FLAGS;
 use scheduler::thread::Place;
 
 // The record of group `n`, that of an uncreated one past the table.
-fn group_in(all: [Group; 8], n: GroupId) -> Group
+fn group_in(all: [Group; GROUPS], n: GroupId) -> Group
     ensures { λ r. ⌜ r ≡ getD all (n .0) noGroup ⌝ }
 {
     let i = n.0 as usize;
-    if i < 8 { all[i] } else { Group::none() }
+    if i < GROUPS { all[i] } else { Group::none() }
 }
 
 // The groups with another record for `n`.
-fn groups_with(mut all: [Group; 8], n: GroupId, g: Group) -> [Group; 8]
+fn groups_with(mut all: [Group; GROUPS], n: GroupId, g: Group) -> [Group; GROUPS]
     ensures { λ r. ⌜ r ≡ set all (n .0) g ⌝ }
 {
     let i = n.0 as usize;
-    if i < 8 {
+    if i < GROUPS {
         all[i] = g;
     }
     all
-}
-
-// Where those who wait for flags of a group stand.
-fn place(n: GroupId) -> Place
-    ensures { λ r. ⌜ r ≡ placeOf Kind.group (n .0) ⌝ }
-{
-    Place {
-        state: ON_FLAGS,
-        number: n.0,
-    }
 }
 
 impl Kernel {
@@ -70,7 +62,7 @@ impl Kernel {
         let s = self.scheduler;
         let changed = groups_with(all, n, Group::of(0));
         self.groups = changed;
-        self.carried(s, SUCCESS, [0; 16], 0)
+        self.carried(s, SUCCESS, [0; MESSAGE_WORDS], 0)
     }
 
     pub(crate) fn event_flags_delete(mut self, caller: u32, n: GroupId) -> Answer
@@ -82,10 +74,10 @@ impl Kernel {
             return self.refused(reason);
         }
         let s = self.scheduler;
-        let line = s.line_at(place(n));
+        let line = s.line_at(Place::group(n));
         let changed = groups_with(all, n, Group::none());
         self.groups = changed;
-        self.ended_each(line, DELETED, [0; 16])
+        self.ended_each(line, DELETED, [0; MESSAGE_WORDS])
     }
 
     // Whoever waits for flags that are now set is woken with them; clears are taken off afterwards. The waits end here, since
@@ -93,17 +85,17 @@ impl Kernel {
     fn set_or(mut self, n: GroupId, flags: u32) -> Answer
         ensures { λ r. ⌜ r ≡ answerOf (carriedOut self (setOrEffect self (n .0) flags)) ⌝ }
     {
-        let mut requests: [u32; 32] = [0; 32];
-        let mut options: [u8; 32] = [0; 32];
+        let mut requests: [u32; THREADS] = [0; THREADS];
+        let mut options: [u8; THREADS] = [0; THREADS];
         let mut t: usize = 0;
-        while t < 32 {
+        while t < THREADS {
             let h = self.held[t];
             requests[t] = h.request;
             options[t] = h.option;
             t += 1;
         }
         let mut s = self.scheduler;
-        let met = woken(s.line_at(place(n)), flags, requests, options);
+        let met = woken(s.line_at(Place::group(n)), flags, requests, options);
         let all = self.groups;
         let changed = groups_with(all, n, Group::of(less(flags, met.clears)));
         self.groups = changed;
@@ -113,15 +105,15 @@ impl Kernel {
         let h = Held::of(SUCCESS, two_words(flags, 0));
         let mut i: usize = 0;
         while i < ended {
-            let x = ids[i];
-            let u = x as usize;
+            let x = ThreadId(ids[i]);
+            let u = x.0 as usize;
             i += 1;
-            s = s.woken(ThreadId(x));
-            if u < 32 {
+            s = s.woken(x);
+            if u < THREADS {
                 self.held[u] = h;
             }
         }
-        self.carried(s, SUCCESS, [0; 16], ended as u32)
+        self.carried(s, SUCCESS, [0; MESSAGE_WORDS], ended as u32)
     }
 
     pub(crate) fn event_flags_set(mut self, n: GroupId, flags: u32, option: u32) -> Answer
@@ -139,7 +131,7 @@ impl Kernel {
         let s = self.scheduler;
         let changed = groups_with(all, n, Group::of(g.flags & flags));
         self.groups = changed;
-        self.carried(s, SUCCESS, [0; 16], 0)
+        self.carried(s, SUCCESS, [0; MESSAGE_WORDS], 0)
     }
 
     pub(crate) fn event_flags_get(
@@ -161,7 +153,7 @@ impl Kernel {
         let o = option_of(option);
         let mut s = self.scheduler;
         let mut status = SUCCESS;
-        let mut words: [u32; 16] = [0; 16];
+        let mut words: [u32; MESSAGE_WORDS] = [0; MESSAGE_WORDS];
         if is_met(g.flags, request, o) {
             words = two_words(g.flags, 0);
             let changed = groups_with(all, n, Group::of(less(g.flags, cleared_by(request, o))));
@@ -169,9 +161,9 @@ impl Kernel {
         } else {
             let t = s.running;
             let i = t.0 as usize;
-            s = with_runner_waiting(s, false, ON_FLAGS, n.0, wait);
+            s = with_runner_waiting(s, false, Place::group(n), wait);
             status = WAITING;
-            if i < 32 {
+            if i < THREADS {
                 let h = Held::requester(request, o);
                 self.held[i] = h;
             }

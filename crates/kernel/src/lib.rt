@@ -6,14 +6,21 @@ ghost use lib.ListN.{getD};
 ghost use Rattle.objects.specs.Semaphores.{noSemaphore};
 ghost use Rattle.calls.specs.Held.{noHeld, noWords, twoWords};
 ghost use Rattle.kernel.specs.Tables.{started, withHeld};
-ghost use Rattle.kernel.specs.Answers.{answerOf, refused, answered};
+ghost use Rattle.kernel.specs.Answers.{answerOf, refused};
+ghost use Rattle.kernel.specs.Loops.{answered};
 use blocks::pool::Pool;
 use calls::held::Held;
-use lines::ThreadId;
+use numbers::GROUPS;
+use numbers::MESSAGE_WORDS;
+use numbers::POOLS;
+use numbers::QUEUES;
+use numbers::SEMAPHORES;
+use numbers::SemaphoreId;
+use numbers::THREADS;
+use numbers::ThreadId;
 use objects::group::Group;
 use objects::queue::Queue;
 use objects::semaphore::Semaphore;
-use objects::semaphore::SemaphoreId;
 use scheduler::Scheduler;
 
 pub mod clock;
@@ -30,18 +37,18 @@ pub mod waits;
 
 pub struct Kernel {
     pub scheduler: Scheduler,
-    pub held: [Held; 32],
-    pub semaphores: [Semaphore; 16],
-    pub queues: [Queue; 8],
-    pub groups: [Group; 8],
-    pub pools: [Pool; 4],
+    pub held: [Held; THREADS],
+    pub semaphores: [Semaphore; SEMAPHORES],
+    pub queues: [Queue; QUEUES],
+    pub groups: [Group; GROUPS],
+    pub pools: [Pool; POOLS],
     pub clock: u32,
 }
 
 // A call's result. `next` is 32 where nobody runs, `ended` counts the waits that the call ended with a status.
 pub struct Answer {
     pub status: u32,
-    pub words: [u32; 16],
+    pub words: [u32; MESSAGE_WORDS],
     pub next: ThreadId,
     pub ended: u32,
     pub kernel: Kernel,
@@ -54,11 +61,11 @@ impl Kernel {
     {
         Kernel {
             scheduler: Scheduler::start(),
-            held: [Held::of(0, [0; 16]); 32],
-            semaphores: [Semaphore::none(); 16],
-            queues: [Queue::none(); 8],
-            groups: [Group::none(); 8],
-            pools: [Pool::none(); 4],
+            held: [Held::of(0, [0; MESSAGE_WORDS]); THREADS],
+            semaphores: [Semaphore::none(); SEMAPHORES],
+            queues: [Queue::none(); QUEUES],
+            groups: [Group::none(); GROUPS],
+            pools: [Pool::none(); POOLS],
             clock: 0,
         }
     }
@@ -71,7 +78,7 @@ impl Kernel {
         let next = s.running;
         Answer {
             status,
-            words: [0; 16],
+            words: [0; MESSAGE_WORDS],
             next,
             ended: 0,
             kernel: self,
@@ -83,7 +90,7 @@ impl Kernel {
         mut self,
         s: Scheduler,
         status: u32,
-        words: [u32; 16],
+        words: [u32; MESSAGE_WORDS],
         ended: u32,
     ) -> Answer
         ensures { λ r. ⌜ r ≡ answered self s status words ended ⌝ }
@@ -113,31 +120,39 @@ impl Kernel {
         ensures { λ r. ⌜ r ≡ answered (withHeld self (t .0) h) s status noWords ended ⌝ }
     {
         let i = t.0 as usize;
-        if i < 32 {
+        if i < THREADS {
             self.held[i] = h;
         }
-        self.carried(s, status, [0; 16], ended)
+        self.carried(s, status, [0; MESSAGE_WORDS], ended)
     }
 }
 
 // The record of semaphore `n`, that of an uncreated one past the table.
-pub(crate) fn semaphore_in(all: [Semaphore; 16], n: SemaphoreId) -> Semaphore
+pub(crate) fn semaphore_in(all: [Semaphore; SEMAPHORES], n: SemaphoreId) -> Semaphore
     ensures { λ r. ⌜ r ≡ getD all (n .0) noSemaphore ⌝ }
 {
     let i = n.0 as usize;
-    if i < 16 { all[i] } else { Semaphore::none() }
+    if i < SEMAPHORES {
+        all[i]
+    } else {
+        Semaphore::none()
+    }
 }
 
 // What thread `t` holds, nothing past the table.
-pub(crate) fn held_in(all: [Held; 32], t: ThreadId) -> Held
+pub(crate) fn held_in(all: [Held; THREADS], t: ThreadId) -> Held
     ensures { λ r. ⌜ r ≡ getD all (t .0) noHeld ⌝ }
 {
     let i = t.0 as usize;
-    if i < 32 { all[i] } else { Held::of(0, [0; 16]) }
+    if i < THREADS {
+        all[i]
+    } else {
+        Held::of(0, [0; MESSAGE_WORDS])
+    }
 }
 
 // Sixteen words that begin with these two.
-pub(crate) fn two_words(a: u32, b: u32) -> [u32; 16]
+pub(crate) fn two_words(a: u32, b: u32) -> [u32; MESSAGE_WORDS]
     ensures { λ r. ⌜ r ≡ twoWords a b ⌝ }
 {
     [a, b, 0, 0, 0, 0, 0, 0, 0, 0, 0, 0, 0, 0, 0, 0]

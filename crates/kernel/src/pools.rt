@@ -2,10 +2,10 @@
 ghost use mathlib.Core.Path.{_≡_};
 ghost use lib.ListN.{getD, set};
 ghost use Rattle.blocks.specs.Pools.{noPool, freshPool};
-ghost use Rattle.calls.specs.Refusals.{poolCreateRefusal, poolDeleteRefusal, allocateRefusal, releaseRefusal, poolRefusal};
+ghost use Rattle.calls.specs.Chains.{poolCreateRefusal, poolDeleteRefusal, allocateRefusal, releaseRefusal, poolRefusal};
 ghost use Rattle.kernel.specs.Tables.{poolAt};
 ghost use Rattle.kernel.specs.Answers.{answerOf};
-ghost use Rattle.kernel.specs.Kinds.{Kind, placeOf};
+ghost use Rattle.kernel.specs.Kinds.{Kind};
 ghost use Rattle.kernel.specs.Edits.{guarded};
 ghost use Rattle.kernel.specs.Effects.{storeEffect, removeEffect, rankEffect};
 ghost use Rattle.kernel.specs.Pools.{allocateEffect, releaseEffect};
@@ -14,42 +14,34 @@ use super::Kernel;
 use super::two_words;
 use super::waits::with_runner_waiting;
 use blocks::pool::Pool;
-use blocks::pool::PoolId;
 use calls::held::Held;
 use calls::refusal;
 use calls::status::DELETED;
 use calls::status::SUCCESS;
 use calls::status::WAITING;
-use scheduler::thread::ON_BLOCK;
+use numbers::MESSAGE_WORDS;
+use numbers::POOLS;
+use numbers::PoolId;
+use numbers::THREADS;
 use scheduler::thread::Place;
 
 // The record of pool `n`, that of an uncreated one past the table.
-pub(crate) fn pool_in(all: [Pool; 4], n: PoolId) -> Pool
+pub(crate) fn pool_in(all: [Pool; POOLS], n: PoolId) -> Pool
     ensures { λ r. ⌜ r ≡ getD all (n .0) noPool ⌝ }
 {
     let i = n.0 as usize;
-    if i < 4 { all[i] } else { Pool::none() }
+    if i < POOLS { all[i] } else { Pool::none() }
 }
 
 // The pools with another record for `n`.
-fn pools_with(mut all: [Pool; 4], n: PoolId, p: Pool) -> [Pool; 4]
+fn pools_with(mut all: [Pool; POOLS], n: PoolId, p: Pool) -> [Pool; POOLS]
     ensures { λ r. ⌜ r ≡ set all (n .0) p ⌝ }
 {
     let i = n.0 as usize;
-    if i < 4 {
+    if i < POOLS {
         all[i] = p;
     }
     all
-}
-
-// Where those who wait for a block of a pool stand.
-fn place(n: PoolId) -> Place
-    ensures { λ r. ⌜ r ≡ placeOf Kind.pool (n .0) ⌝ }
-{
-    Place {
-        state: ON_BLOCK,
-        number: n.0,
-    }
 }
 
 impl Kernel {
@@ -70,7 +62,7 @@ impl Kernel {
         let s = self.scheduler;
         let changed = pools_with(all, n, Pool::of(block, total));
         self.pools = changed;
-        self.carried(s, SUCCESS, [0; 16], 0)
+        self.carried(s, SUCCESS, [0; MESSAGE_WORDS], 0)
     }
 
     pub(crate) fn block_pool_delete(mut self, caller: u32, n: PoolId) -> Answer
@@ -82,10 +74,10 @@ impl Kernel {
             return self.refused(reason);
         }
         let s = self.scheduler;
-        let line = s.line_at(place(n));
+        let line = s.line_at(Place::pool(n));
         let changed = pools_with(all, n, Pool::none());
         self.pools = changed;
-        self.ended_each(line, DELETED, [0; 16])
+        self.ended_each(line, DELETED, [0; MESSAGE_WORDS])
     }
 
     pub(crate) fn block_allocate(mut self, caller: u32, n: PoolId, wait: u32) -> Answer
@@ -99,7 +91,7 @@ impl Kernel {
         }
         let mut s = self.scheduler;
         let mut status = SUCCESS;
-        let mut words: [u32; 16] = [0; 16];
+        let mut words: [u32; MESSAGE_WORDS] = [0; MESSAGE_WORDS];
         if p.has_free() {
             words = two_words(p.next() as u32, 0);
             let changed = pools_with(all, n, p.without_next());
@@ -107,10 +99,10 @@ impl Kernel {
         } else {
             let t = s.running;
             let i = t.0 as usize;
-            s = with_runner_waiting(s, false, ON_BLOCK, n.0, wait);
+            s = with_runner_waiting(s, false, Place::pool(n), wait);
             status = WAITING;
-            if i < 32 {
-                let h = Held::of(WAITING, [0; 16]);
+            if i < THREADS {
+                let h = Held::of(WAITING, [0; MESSAGE_WORDS]);
                 self.held[i] = h;
             }
         }
@@ -129,9 +121,9 @@ impl Kernel {
         }
         let mut s = self.scheduler;
         let mut ended: u32 = 0;
-        let f = s.first_at(place(n));
+        let f = s.first_at(Place::pool(n));
         let i = f.0 as usize;
-        if i < 32 {
+        if i < THREADS {
             let h = Held::of(SUCCESS, two_words(block as u32, 0));
             self.held[i] = h;
             s = s.woken(f);
@@ -140,7 +132,7 @@ impl Kernel {
             let changed = pools_with(all, n, p.with_free(block));
             self.pools = changed;
         }
-        self.carried(s, SUCCESS, [0; 16], ended)
+        self.carried(s, SUCCESS, [0; MESSAGE_WORDS], ended)
     }
 
     pub(crate) fn block_pool_prioritize(self, n: PoolId) -> Answer
@@ -152,6 +144,11 @@ impl Kernel {
             return self.refused(reason);
         }
         let s = self.scheduler;
-        self.carried(s.prioritised(place(n)), SUCCESS, [0; 16], 0)
+        self.carried(
+            s.prioritised(Place::pool(n)),
+            SUCCESS,
+            [0; MESSAGE_WORDS],
+            0,
+        )
     }
 }

@@ -3,10 +3,10 @@ ghost use mathlib.Core.Path.{_≡_};
 ghost use lib.ListN.{getD, length};
 ghost use Rattle.objects.specs.Queues.{noQueue, emptyQueue};
 ghost use Rattle.calls.specs.Messages.{messageIn};
-ghost use Rattle.calls.specs.Refusals.{queueCreateRefusal, queueDeleteRefusal, sendRefusal, receiveRefusal, queueRefusal};
+ghost use Rattle.calls.specs.Chains.{queueCreateRefusal, queueDeleteRefusal, sendRefusal, receiveRefusal, queueRefusal};
 ghost use Rattle.kernel.specs.Tables.{queueAt};
 ghost use Rattle.kernel.specs.Answers.{answerOf};
-ghost use Rattle.kernel.specs.Kinds.{Kind, placeOf};
+ghost use Rattle.kernel.specs.Kinds.{Kind};
 ghost use Rattle.kernel.specs.Edits.{Cause, Holds, carriedOut, guarded};
 ghost use Rattle.kernel.specs.Effects.{storeEffect, closeEffect, removeEffect, rankEffect};
 ghost use Rattle.kernel.specs.Queues.{sendEffect, receiveEffect, flushEffect};
@@ -19,27 +19,19 @@ use calls::refusal;
 use calls::status::DELETED;
 use calls::status::SUCCESS;
 use calls::status::WAITING;
+use numbers::MESSAGE_WORDS;
+use numbers::QUEUES;
+use numbers::QueueId;
+use numbers::THREADS;
 use objects::queue::Queue;
-use objects::queue::QueueId;
-use scheduler::thread::ON_QUEUE;
 use scheduler::thread::Place;
 
 // The record of queue `n`, that of an uncreated one past the table.
-fn queue_in(all: [Queue; 8], n: QueueId) -> Queue
+fn queue_in(all: [Queue; QUEUES], n: QueueId) -> Queue
     ensures { λ r. ⌜ r ≡ getD all (n .0) noQueue ⌝ }
 {
     let i = n.0 as usize;
-    if i < 8 { all[i] } else { Queue::none() }
-}
-
-// Where the waiters of a queue stand.
-fn place(n: QueueId) -> Place
-    ensures { λ r. ⌜ r ≡ placeOf Kind.queue (n .0) ⌝ }
-{
-    Place {
-        state: ON_QUEUE,
-        number: n.0,
-    }
+    if i < QUEUES { all[i] } else { Queue::none() }
 }
 
 impl Kernel {
@@ -48,12 +40,12 @@ impl Kernel {
         ensures { λ r. ⌜ ((c : Cause) → Holds c status → r ≡ answerOf (carriedOut self (closeEffect self c Kind.queue (n .0) q))) ⌝ }
     {
         let s = self.scheduler;
-        let line = s.line_at(place(n));
+        let line = s.line_at(Place::queue(n));
         let i = n.0 as usize;
-        if i < 8 {
+        if i < QUEUES {
             self.queues[i] = q;
         }
-        self.ended_each(line, status, [0; 16])
+        self.ended_each(line, status, [0; MESSAGE_WORDS])
     }
 
     pub(crate) fn queue_create(
@@ -73,10 +65,10 @@ impl Kernel {
         let s = self.scheduler;
         let q = Queue::of(words, storage);
         let i = n.0 as usize;
-        if i < 8 {
+        if i < QUEUES {
             self.queues[i] = q;
         }
-        self.carried(s, SUCCESS, [0; 16], 0)
+        self.carried(s, SUCCESS, [0; MESSAGE_WORDS], 0)
     }
 
     pub(crate) fn queue_delete(self, caller: u32, n: QueueId) -> Answer
@@ -114,9 +106,9 @@ impl Kernel {
         let mut status = SUCCESS;
         let mut ended: u32 = 0;
         if q.has_room() {
-            let f = s.first_at(place(n));
+            let f = s.first_at(Place::queue(n));
             let i = f.0 as usize;
-            if i < 32 {
+            if i < THREADS {
                 let h = Held::of(SUCCESS, message);
                 self.held[i] = h;
                 s = s.woken(f);
@@ -124,21 +116,21 @@ impl Kernel {
             } else {
                 let filled = q.with_sent(front, message);
                 let j = n.0 as usize;
-                if j < 8 {
+                if j < QUEUES {
                     self.queues[j] = filled;
                 }
             }
         } else {
             let t = s.running;
             let i = t.0 as usize;
-            s = with_runner_waiting(s, front, ON_QUEUE, n.0, wait);
+            s = with_runner_waiting(s, front, Place::queue(n), wait);
             status = WAITING;
-            if i < 32 {
+            if i < THREADS {
                 let h = Held::sender(front, message);
                 self.held[i] = h;
             }
         }
-        self.carried(s, status, [0; 16], ended)
+        self.carried(s, status, [0; MESSAGE_WORDS], ended)
     }
 
     // The receiver waits, or gets a message; the first sender in line may then pass or store its own.
@@ -154,26 +146,26 @@ impl Kernel {
         let mut s = self.scheduler;
         let mut status = SUCCESS;
         let mut ended: u32 = 0;
-        let mut words: [u32; 16] = [0; 16];
+        let mut words: [u32; MESSAGE_WORDS] = [0; MESSAGE_WORDS];
         if q.is_empty() {
             let t = s.running;
             let i = t.0 as usize;
-            s = with_runner_waiting(s, false, ON_QUEUE, n.0, wait);
+            s = with_runner_waiting(s, false, Place::queue(n), wait);
             status = WAITING;
-            if i < 32 {
-                let h = Held::of(WAITING, [0; 16]);
+            if i < THREADS {
+                let h = Held::of(WAITING, [0; MESSAGE_WORDS]);
                 self.held[i] = h;
             }
         } else {
-            let f = s.first_at(place(n));
+            let f = s.first_at(Place::queue(n));
             let i = f.0 as usize;
             let mut left = q;
-            if i < 32 {
+            if i < THREADS {
                 let sender = self.held[i];
-                let message = sender.message;
+                let message = sender.message();
                 words = q.given_past(sender.front, message);
                 left = q.left_past(sender.front, message);
-                let h = Held::of(SUCCESS, [0; 16]);
+                let h = Held::of(SUCCESS, [0; MESSAGE_WORDS]);
                 self.held[i] = h;
                 s = s.woken(f);
                 ended = 1;
@@ -182,7 +174,7 @@ impl Kernel {
                 left = q.without_oldest();
             }
             let j = n.0 as usize;
-            if j < 8 {
+            if j < QUEUES {
                 self.queues[j] = left;
             }
         }
@@ -200,7 +192,7 @@ impl Kernel {
         }
         if q.is_empty() {
             let s = self.scheduler;
-            return self.carried(s, SUCCESS, [0; 16], 0);
+            return self.carried(s, SUCCESS, [0; MESSAGE_WORDS], 0);
         }
         self.queue_ended(n, q.flushed(), SUCCESS)
     }
@@ -214,6 +206,11 @@ impl Kernel {
             return self.refused(reason);
         }
         let s = self.scheduler;
-        self.carried(s.prioritised(place(n)), SUCCESS, [0; 16], 0)
+        self.carried(
+            s.prioritised(Place::queue(n)),
+            SUCCESS,
+            [0; MESSAGE_WORDS],
+            0,
+        )
     }
 }

@@ -1,10 +1,10 @@
 // Semaphore services.
 ghost use mathlib.Core.Path.{_≡_};
 ghost use lib.ListN.{set};
-ghost use Rattle.calls.specs.Refusals.{semaphoreCreateRefusal, semaphoreGetRefusal, semaphoreRefusal, ceilingRefusal, semaphoreDeleteRefusal};
+ghost use Rattle.calls.specs.Chains.{semaphoreCreateRefusal, semaphoreGetRefusal, semaphoreRefusal, ceilingRefusal, semaphoreDeleteRefusal};
 ghost use Rattle.kernel.specs.Tables.{semaphoreAt};
 ghost use Rattle.kernel.specs.Answers.{answerOf};
-ghost use Rattle.kernel.specs.Kinds.{Kind, placeOf};
+ghost use Rattle.kernel.specs.Kinds.{Kind};
 ghost use Rattle.kernel.specs.Edits.{guarded};
 ghost use Rattle.kernel.specs.Effects.{storeEffect, removeEffect, rankEffect, counting};
 ghost use Rattle.kernel.specs.Semaphores.{semaphoreGetEffect, putEffect};
@@ -17,17 +17,23 @@ use calls::refusal;
 use calls::status::DELETED;
 use calls::status::SUCCESS;
 use calls::status::WAITING;
+use numbers::MESSAGE_WORDS;
+use numbers::SEMAPHORES;
+use numbers::SemaphoreId;
+use numbers::THREADS;
 use objects::semaphore::Semaphore;
-use objects::semaphore::SemaphoreId;
-use scheduler::thread::ON_SEMAPHORE;
 use scheduler::thread::Place;
 
 // The semaphores with another record for `n`.
-fn semaphores_with(mut all: [Semaphore; 16], n: SemaphoreId, x: Semaphore) -> [Semaphore; 16]
+fn semaphores_with(
+    mut all: [Semaphore; SEMAPHORES],
+    n: SemaphoreId,
+    x: Semaphore,
+) -> [Semaphore; SEMAPHORES]
     ensures { λ r. ⌜ r ≡ set all (n .0) x ⌝ }
 {
     let i = n.0 as usize;
-    if i < 16 {
+    if i < SEMAPHORES {
         all[i] = x;
     }
     all
@@ -43,16 +49,6 @@ fn counting(count: u32) -> Semaphore
     }
 }
 
-// Where the waiters of a semaphore stand.
-fn place(n: SemaphoreId) -> Place
-    ensures { λ r. ⌜ r ≡ placeOf Kind.semaphore (n .0) ⌝ }
-{
-    Place {
-        state: ON_SEMAPHORE,
-        number: n.0,
-    }
-}
-
 impl Kernel {
     pub(crate) fn semaphore_create(mut self, caller: u32, n: SemaphoreId, count: u32) -> Answer
         ensures { λ r. ⌜ r ≡ answerOf (guarded self (semaphoreCreateRefusal (n .0) (semaphoreAt self (n .0)) caller) (storeEffect Kind.semaphore (n .0) (counting count))) ⌝ }
@@ -65,7 +61,7 @@ impl Kernel {
         let s = self.scheduler;
         let changed = semaphores_with(all, n, counting(count));
         self.semaphores = changed;
-        self.carried(s, SUCCESS, [0; 16], 0)
+        self.carried(s, SUCCESS, [0; MESSAGE_WORDS], 0)
     }
 
     pub(crate) fn semaphore_get(mut self, caller: u32, n: SemaphoreId, wait: u32) -> Answer
@@ -85,14 +81,14 @@ impl Kernel {
         } else {
             let t = s.running;
             let i = t.0 as usize;
-            s = with_runner_waiting(s, false, ON_SEMAPHORE, n.0, wait);
+            s = with_runner_waiting(s, false, Place::semaphore(n), wait);
             status = WAITING;
-            if i < 32 {
-                let h = Held::of(WAITING, [0; 16]);
+            if i < THREADS {
+                let h = Held::of(WAITING, [0; MESSAGE_WORDS]);
                 self.held[i] = h;
             }
         }
-        self.carried(s, status, [0; 16], 0)
+        self.carried(s, status, [0; MESSAGE_WORDS], 0)
     }
 
     // The first waiter is served, else the count goes up by one.
@@ -107,10 +103,10 @@ impl Kernel {
         }
         let mut s = self.scheduler;
         let mut ended: u32 = 0;
-        let f = s.first_at(place(n));
+        let f = s.first_at(Place::semaphore(n));
         let i = f.0 as usize;
-        if i < 32 {
-            let h = Held::of(SUCCESS, [0; 16]);
+        if i < THREADS {
+            let h = Held::of(SUCCESS, [0; MESSAGE_WORDS]);
             self.held[i] = h;
             s = s.woken(f);
             ended = 1;
@@ -118,7 +114,7 @@ impl Kernel {
             let changed = semaphores_with(all, n, counting(std::num::wrapping_add_u32(x.count, 1)));
             self.semaphores = changed;
         }
-        self.carried(s, SUCCESS, [0; 16], ended)
+        self.carried(s, SUCCESS, [0; MESSAGE_WORDS], ended)
     }
 
     // A put that the ceiling does not forbid.
@@ -142,7 +138,12 @@ impl Kernel {
             return self.refused(reason);
         }
         let s = self.scheduler;
-        self.carried(s.prioritised(place(n)), SUCCESS, [0; 16], 0)
+        self.carried(
+            s.prioritised(Place::semaphore(n)),
+            SUCCESS,
+            [0; MESSAGE_WORDS],
+            0,
+        )
     }
 
     pub(crate) fn semaphore_delete(mut self, caller: u32, n: SemaphoreId) -> Answer
@@ -154,9 +155,9 @@ impl Kernel {
             return self.refused(reason);
         }
         let s = self.scheduler;
-        let line = s.line_at(place(n));
+        let line = s.line_at(Place::semaphore(n));
         let changed = semaphores_with(all, n, Semaphore::none());
         self.semaphores = changed;
-        self.ended_each(line, DELETED, [0; 16])
+        self.ended_each(line, DELETED, [0; MESSAGE_WORDS])
     }
 }

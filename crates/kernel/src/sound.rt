@@ -2,6 +2,11 @@
 ghost use mathlib.Core.Path.{_≡_};
 ghost use Rattle.kernel.specs.Sound.{soundb};
 use super::Kernel;
+use numbers::GROUPS;
+use numbers::POOLS;
+use numbers::QUEUES;
+use numbers::SEMAPHORES;
+use numbers::THREADS;
 use scheduler::thread::ON_BLOCK;
 use scheduler::thread::ON_FLAGS;
 use scheduler::thread::ON_QUEUE;
@@ -28,7 +33,7 @@ impl Kernel {
         let mut held = true;
         let mut waits = true;
         let mut t: usize = 0;
-        while t < 32 {
+        while t < THREADS {
             let th = s.threads[t];
             let n = th.object as usize;
             if th.is_paused() {
@@ -36,25 +41,25 @@ impl Kernel {
                 held = held & paused_fits(th, h);
                 t += 1;
                 if waits_on(th, ON_QUEUE) {
-                    if n < 8 {
+                    if n < QUEUES {
                         waits = waits & queue_waits(h, self.queues[n]);
                     } else {
                         waits = false;
                     }
                 } else if waits_on(th, ON_SEMAPHORE) {
-                    if n < 16 {
+                    if n < SEMAPHORES {
                         waits = waits & semaphore_waits(self.semaphores[n]);
                     } else {
                         waits = false;
                     }
                 } else if waits_on(th, ON_FLAGS) {
-                    if n < 8 {
+                    if n < GROUPS {
                         waits = waits & group_waits(h, self.groups[n]);
                     } else {
                         waits = false;
                     }
                 } else if waits_on(th, ON_BLOCK) {
-                    if n < 4 {
+                    if n < POOLS {
                         waits = waits & pool_waits(self.pools[n]);
                     } else {
                         waits = false;
@@ -70,7 +75,7 @@ impl Kernel {
         }
         let mut queues = true;
         let mut q: usize = 0;
-        while q < 8 {
+        while q < QUEUES {
             if self.queues[q].stored == 0 {
                 queues = queues & self.queues[q].is_fit_empty();
                 q += 1;
@@ -81,7 +86,7 @@ impl Kernel {
         }
         let mut pools = true;
         let mut p: usize = 0;
-        while p < 4 {
+        while p < POOLS {
             if self.pools[p].created {
                 pools = pools & self.pools[p].is_fit();
                 p += 1;

@@ -3,7 +3,7 @@ ghost use mathlib.Core.Path.{_≡_};
 ghost use lib.Dec.{eqb};
 ghost use Rattle.lines.specs.Logic.{if_then_else_};
 ghost use Rattle.scheduler.specs.Threads.{ready, completed, suspended};
-ghost use Rattle.calls.specs.Refusals.{createRefusal, deleteRefusal, resumeRefusal, suspendRefusal, terminateRefusal, resetRefusal, threadOnlyRefusal, abortRefusal, priorityRefusal, preemptionRefusal, readRefusal};
+ghost use Rattle.calls.specs.Chains.{createRefusal, deleteRefusal, resumeRefusal, suspendRefusal, terminateRefusal, resetRefusal, threadOnlyRefusal, abortRefusal, priorityRefusal, preemptionRefusal, readRefusal};
 ghost use Rattle.kernel.specs.Tables.{threadOf, runnerOf};
 ghost use Rattle.kernel.specs.Answers.{answerOf};
 ghost use Rattle.kernel.specs.Edits.{guarded};
@@ -12,15 +12,16 @@ use super::Answer;
 use super::Kernel;
 use super::held_in;
 use super::two_words;
-use super::waits::with_runner_waiting;
+use super::waits::with_runner_asleep;
 use calls::held::Held;
 use calls::refusal;
 use calls::status::SUCCESS;
 use calls::status::SUSPEND_LIFTED;
 use calls::status::WAIT_ABORTED;
 use calls::status::WAITING;
-use lines::ThreadId;
-use scheduler::thread::ASLEEP;
+use numbers::MESSAGE_WORDS;
+use numbers::THREADS;
+use numbers::ThreadId;
 use scheduler::thread::COMPLETED;
 use scheduler::thread::READY;
 use scheduler::thread::SUSPENDED;
@@ -50,7 +51,13 @@ impl Kernel {
             return self.refused(reason);
         }
         let th = Thread::created(start_state(start), priority as u8, threshold as u8);
-        self.held_carried(t, Held::of(0, [0; 16]), s.moved(t, th), SUCCESS, 0)
+        self.held_carried(
+            t,
+            Held::of(0, [0; MESSAGE_WORDS]),
+            s.moved(t, th),
+            SUCCESS,
+            0,
+        )
     }
 
     pub(crate) fn thread_delete(self, caller: u32, t: ThreadId) -> Answer
@@ -63,7 +70,7 @@ impl Kernel {
         }
         self.held_carried(
             t,
-            Held::of(0, [0; 16]),
+            Held::of(0, [0; MESSAGE_WORDS]),
             s.moved(t, Thread::uncreated()),
             SUCCESS,
             0,
@@ -83,11 +90,16 @@ impl Kernel {
             return self.carried(
                 s.with_thread(t, th.with_suspension(false)),
                 SUSPEND_LIFTED,
-                [0; 16],
+                [0; MESSAGE_WORDS],
                 0,
             );
         }
-        self.carried(s.moved(t, th.in_state(READY, 0, 0)), SUCCESS, [0; 16], 0)
+        self.carried(
+            s.moved(t, th.at_rest(READY)),
+            SUCCESS,
+            [0; MESSAGE_WORDS],
+            0,
+        )
     }
 
     pub(crate) fn thread_suspend(self, t: ThreadId) -> Answer
@@ -103,19 +115,19 @@ impl Kernel {
             return self.carried(
                 s.with_thread(t, th.with_suspension(true)),
                 SUCCESS,
-                [0; 16],
+                [0; MESSAGE_WORDS],
                 0,
             );
         }
         if th.is_ready() {
             return self.carried(
-                s.moved(t, th.in_state(SUSPENDED, 0, 0)),
+                s.moved(t, th.at_rest(SUSPENDED)),
                 SUCCESS,
-                [0; 16],
+                [0; MESSAGE_WORDS],
                 0,
             );
         }
-        self.carried(s, SUCCESS, [0; 16], 0)
+        self.carried(s, SUCCESS, [0; MESSAGE_WORDS], 0)
     }
 
     pub(crate) fn thread_terminate(self, caller: u32, t: ThreadId) -> Answer
@@ -128,10 +140,16 @@ impl Kernel {
             return self.refused(reason);
         }
         if (th.state == COMPLETED) | (th.state == TERMINATED) {
-            return self.carried(s, SUCCESS, [0; 16], 0);
+            return self.carried(s, SUCCESS, [0; MESSAGE_WORDS], 0);
         }
-        let ended = th.in_state(TERMINATED, 0, 0);
-        self.held_carried(t, Held::of(0, [0; 16]), s.moved(t, ended), SUCCESS, 0)
+        let ended = th.at_rest(TERMINATED);
+        self.held_carried(
+            t,
+            Held::of(0, [0; MESSAGE_WORDS]),
+            s.moved(t, ended),
+            SUCCESS,
+            0,
+        )
     }
 
     pub(crate) fn thread_reset(self, caller: u32, t: ThreadId) -> Answer
@@ -143,8 +161,14 @@ impl Kernel {
         if reason != 0 {
             return self.refused(reason);
         }
-        let fresh = th.in_state(SUSPENDED, 0, 0);
-        self.held_carried(t, Held::of(0, [0; 16]), s.moved(t, fresh), SUCCESS, 0)
+        let fresh = th.at_rest(SUSPENDED);
+        self.held_carried(
+            t,
+            Held::of(0, [0; MESSAGE_WORDS]),
+            s.moved(t, fresh),
+            SUCCESS,
+            0,
+        )
     }
 
     pub(crate) fn thread_finish(self, caller: u32) -> Answer
@@ -157,8 +181,14 @@ impl Kernel {
         let s = self.scheduler;
         let t = s.running;
         let th = s.thread_at(t);
-        let ended = th.in_state(COMPLETED, 0, 0);
-        self.held_carried(t, Held::of(0, [0; 16]), s.moved(t, ended), SUCCESS, 0)
+        let ended = th.at_rest(COMPLETED);
+        self.held_carried(
+            t,
+            Held::of(0, [0; MESSAGE_WORDS]),
+            s.moved(t, ended),
+            SUCCESS,
+            0,
+        )
     }
 
     pub(crate) fn thread_relinquish(mut self, caller: u32) -> Answer
@@ -174,7 +204,7 @@ impl Kernel {
         self.scheduler = chosen;
         Answer {
             status: SUCCESS,
-            words: [0; 16],
+            words: [0; MESSAGE_WORDS],
             next,
             ended: 0,
             kernel: self,
@@ -193,14 +223,14 @@ impl Kernel {
         if ticks != 0 {
             let t = s.running;
             let i = t.0 as usize;
-            s = with_runner_waiting(s, false, ASLEEP, 0, ticks);
+            s = with_runner_asleep(s, ticks);
             status = WAITING;
-            if i < 32 {
-                let h = Held::of(WAITING, [0; 16]);
+            if i < THREADS {
+                let h = Held::of(WAITING, [0; MESSAGE_WORDS]);
                 self.held[i] = h;
             }
         }
-        self.carried(s, status, [0; 16], 0)
+        self.carried(s, status, [0; MESSAGE_WORDS], 0)
     }
 
     pub(crate) fn thread_wait_abort(self, t: ThreadId) -> Answer
@@ -211,7 +241,13 @@ impl Kernel {
         if reason != 0 {
             return self.refused(reason);
         }
-        self.held_carried(t, Held::of(WAIT_ABORTED, [0; 16]), s.woken(t), SUCCESS, 1)
+        self.held_carried(
+            t,
+            Held::of(WAIT_ABORTED, [0; MESSAGE_WORDS]),
+            s.woken(t),
+            SUCCESS,
+            1,
+        )
     }
 
     pub(crate) fn thread_priority_change(self, caller: u32, t: ThreadId, priority: u32) -> Answer
@@ -267,7 +303,7 @@ impl Kernel {
         }
         let all = self.held;
         let h = held_in(all, t);
-        let words = h.words;
+        let words = h.held_words();
         self.carried(s, SUCCESS, words, 0)
     }
 }

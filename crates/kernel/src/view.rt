@@ -9,8 +9,8 @@ ghost use Rattle.kernel.specs.Views.{viewedPool, blockExtent, blockView,
 use super::Kernel;
 use super::pools::pool_in;
 use blocks::pool::Pool;
-use blocks::pool::PoolId;
 use blocks::view::Extent;
+use numbers::PoolId;
 
 impl Kernel {
     // The record of pool `n`; that of an uncreated one past the table, and where the tables are unsound.

@@ -14,22 +14,22 @@ use Rattle.kernel.specs.declared.Kernel.{Kernel}
 use Rattle.kernel.specs.Tables.{semaphoreAt, poolAt}
 use Rattle.kernel.specs.Kinds.Kind.{semaphore, pool}
 use Rattle.kernel.specs.Sound.{Sound}
-use Rattle.kernel.specs.Roles.{oneOf}
+use Rattle.calls.specs.Callers.{oneOf}
 use Rattle.kernel.specs.Effects.{oneMore, counting}
-use Rattle.claims.specs.Lists.{Request, answer, next, after}
-use Rattle.claims.specs.Rolls.{doneb, gave}
+use Rattle.claims.specs.Lists.{Made, answer, next, after}
+use Rattle.claims.specs.Rolls.{succeedsb, gave}
 use Rattle.claims.specs.Accounts.{servedLater, served, Undeleted, SemaphoreAccount, PoolAccount, Accounts}
 use Rattle.claims.proofs.Laws.Steps.{next-sound}
 use Rattle.claims.proofs.Laws.Served.{later}
 use Rattle.claims.proofs.Laws.Entries.{Entry, even, less, more, gives, takes, step-entry, new-object}
 
 -- ---- what one call makes of a count
-record Counted (n : ℕ) (k : Kernel) (m : Request) (status : ℕ) (x : Kernel) : Type 0 where
+record Counted (n : ℕ) (k : Kernel) (m : Made) (status : ℕ) (x : Kernel) : Type 0 where
   created : semaphoreAt x n .created ≡ true
   enough : takes semaphore n m status + later semaphore n k x ≤ semaphoreAt k n .count + gives semaphore n m status
   count : semaphoreAt x n .count ≡ (semaphoreAt k n .count + gives semaphore n m status - (takes semaphore n m status + later semaphore n k x)) % 4294967296
 
-module _ (n : ℕ) (k : Kernel) (m : Request) (status : ℕ) (x : Kernel) (made : semaphoreAt k n .created ≡ true) (low : semaphoreAt k n .count < 4294967296) where
+module _ (n : ℕ) (k : Kernel) (m : Made) (status : ℕ) (x : Kernel) (made : semaphoreAt k n .created ≡ true) (low : semaphoreAt k n .count < 4294967296) where
   counted : Entry semaphore n k m status x → Counted n k m status x
   unfolding counting oneMore
   counted (even b e) = let c = ap (λ (y : Semaphore). y .count) e in record { created = ap (λ (y : Semaphore). y .created) e ∙ made; enough = omega (arith, b); count = omega (arith, b, c, low) }
@@ -37,7 +37,7 @@ module _ (n : ℕ) (k : Kernel) (m : Request) (status : ℕ) (x : Kernel) (made 
   counted (more o g may e) = let c = ap (λ (y : Semaphore). y .count) e in record { created = ap (λ (y : Semaphore). y .created) e; enough = omega (arith, o); count = omega (arith, o, g, c, low) }
 
 -- ---- and of the free blocks
-record Booked (n : ℕ) (k : Kernel) (m : Request) (status : ℕ) (x : Kernel) : Type 0 where
+record Booked (n : ℕ) (k : Kernel) (m : Made) (status : ℕ) (x : Kernel) : Type 0 where
   created : poolAt x n .created ≡ true
   slots : length (poolAt x n .list) ≡ 64
   total : blocksOf (poolAt x n) ≡ blocksOf (poolAt k n)
@@ -48,7 +48,7 @@ module _ (n : ℕ) (k : Kernel) (S : Sound k) (made : poolAt k n .created ≡ tr
   pool-fit : poolFitb (poolAt k n) ≡ true
   pool-fit = Objects.object-fit pool k (S .fit) n made
 
-  module _ (m : Request) (status : ℕ) (x : Kernel) where
+  module _ (m : Made) (status : ℕ) (x : Kernel) where
     changed : (y : Pool) → poolAt x n ≡ y → Records.Alike y (poolAt k n) → length (y .list) ≡ 64 → takes pool n m status + later pool n k x ≤ poolAt k n .free + gives pool n m status
         → y .free ≡ poolAt k n .free + gives pool n m status - (takes pool n m status + later pool n k x) → Booked n k m status x
     changed y e a l enough f =
@@ -67,12 +67,12 @@ module _ (n : ℕ) (k : Kernel) (S : Sound k) (made : poolAt k n .created ≡ tr
         let f = Records.without-free (poolAt k n) pool-fit made slots in
         changed (withoutNext (poolAt k n)) e (Records.without-alike (poolAt k n)) (Records.listing-slots (poolAt k n) _) (omega (arith, o, some)) (omega (arith, o, g, f))
     booked (more o g may e) =
-        let f = Records.with-free (poolAt k n) pool-fit made slots (m .b) may in
-        changed (withFree (poolAt k n) (m .b)) e (Records.with-alike (poolAt k n) (m .b)) (Records.listing-slots (poolAt k n) _) (omega (arith, o)) (omega (arith, o, g, f))
+        let f = Records.with-free (poolAt k n) pool-fit made slots (m .request .b) may in
+        changed (withFree (poolAt k n) (m .request .b)) e (Records.with-alike (poolAt k n) (m .request .b)) (Records.listing-slots (poolAt k n) _) (omega (arith, o)) (omega (arith, o, g, f))
 
 -- ---- lists of calls
-semaphore-from : (n : ℕ) (ms : List Request) (k : Kernel) → Sound k → semaphoreAt k n .created ≡ true → semaphoreAt k n .count < 4294967296 → Undeleted semaphore n k ms → SemaphoreAccount n (semaphoreAt k n .count) k ms
-unfolding served servedLater gave after doneb
+semaphore-from : (n : ℕ) (ms : List Made) (k : Kernel) → Sound k → semaphoreAt k n .created ≡ true → semaphoreAt k n .count < 4294967296 → Undeleted semaphore n k ms → SemaphoreAccount n (semaphoreAt k n .count) k ms
+unfolding served servedLater gave after succeedsb
 semaphore-from n [] k S made low u = record { enough = omega arith; count = omega (arith, low) }
 semaphore-from n (m ∷ ms) k S made low u =
     let one = counted n k m (answer k m .status) (next k m) made low (step-entry semaphore refl n k S made m (u .0)) in
@@ -83,8 +83,8 @@ semaphore-from n (m ∷ ms) k S made low u =
     let last = rest .count in
     record { enough = omega (arith, few, now, enough); count = omega (arith, few, now, enough, last) }
 
-pool-from : (n : ℕ) (ms : List Request) (k : Kernel) → Sound k → poolAt k n .created ≡ true → length (poolAt k n .list) ≡ 64 → Undeleted pool n k ms → PoolAccount n (poolAt k n .free) k ms
-unfolding served servedLater gave after doneb
+pool-from : (n : ℕ) (ms : List Made) (k : Kernel) → Sound k → poolAt k n .created ≡ true → length (poolAt k n .list) ≡ 64 → Undeleted pool n k ms → PoolAccount n (poolAt k n .free) k ms
+unfolding served servedLater gave after succeedsb
 pool-from n [] k S made slots u = record { enough = omega arith; free = omega arith; listed = Records.fit-length (poolAt k n) (pool-fit n k S made slots) made slots; total = refl }
 pool-from n (m ∷ ms) k S made slots u =
     let one = booked n k S made slots m (answer k m .status) (next k m) (step-entry pool refl n k S made m (u .0)) in
@@ -96,30 +96,30 @@ pool-from n (m ∷ ms) k S made slots u =
     record { enough = omega (arith, few, now, enough); free = omega (arith, few, now, enough, last); listed = rest .listed; total = rest .total ∙ one .total }
 
 -- ---- since creation
-module _ (k : Kernel) (S : Sound k) (m : Request) where
-  semaphore-since : m .number ≡ 16 → m .b < 4294967296 → doneb (answer k m) ≡ true → (ms : List Request) → Undeleted semaphore (m .a) (next k m) ms → SemaphoreAccount (m .a) (m .b) (next k m) ms
+module _ (k : Kernel) (S : Sound k) (m : Made) where
+  semaphore-since : m .request .number ≡ 16 → m .request .b < 4294967296 → succeedsb (answer k m) ≡ true → (ms : List Made) → Undeleted semaphore (m .request .a) (next k m) ms → SemaphoreAccount (m .request .a) (m .request .b) (next k m) ms
   unfolding counting
   semaphore-since n low done ms u =
       let e = new-object k S m semaphore (subst (λ (i : ℕ). oneOf i (16 ∷ []) ≡ true) (sym n) refl) done in
-      let c : semaphoreAt (next k m) (m .a) .count ≡ m .b = ap (λ (y : Semaphore). y .count) e in
-      subst (λ (b : ℕ). SemaphoreAccount (m .a) b (next k m) ms) c
-      (semaphore-from (m .a) ms (next k m) (next-sound k S m) (ap (λ (y : Semaphore). y .created) e) (omega (arith, c, low)) u)
+      let c : semaphoreAt (next k m) (m .request .a) .count ≡ m .request .b = ap (λ (y : Semaphore). y .count) e in
+      subst (λ (b : ℕ). SemaphoreAccount (m .request .a) b (next k m) ms) c
+      (semaphore-from (m .request .a) ms (next k m) (next-sound k S m) (ap (λ (y : Semaphore). y .created) e) (omega (arith, c, low)) u)
 
-  module _ (n : m .number ≡ 33) (done : doneb (answer k m) ≡ true) where
-    fresh : poolAt (next k m) (m .a) ≡ freshPool (m .b) (m .c)
+  module _ (n : m .request .number ≡ 33) (done : succeedsb (answer k m) ≡ true) where
+    fresh : poolAt (next k m) (m .request .a) ≡ freshPool (m .request .b) (m .request .c)
     fresh = new-object k S m pool (subst (λ (i : ℕ). oneOf i (33 ∷ []) ≡ true) (sym n) refl) done
 
-    pool-since : (ms : List Request) → Undeleted pool (m .a) (next k m) ms → PoolAccount (m .a) (blocksOf (poolAt (next k m) (m .a))) (next k m) ms
+    pool-since : (ms : List Made) → Undeleted pool (m .request .a) (next k m) ms → PoolAccount (m .request .a) (blocksOf (poolAt (next k m) (m .request .a))) (next k m) ms
     unfolding freshPool listing
     pool-since ms u =
         let T = next-sound k S m in
         let made = ap (λ (y : Pool). y .created) fresh in
-        let slots = ap (λ (y : Pool). length (y .list)) fresh ∙ Records.listing-slots (poolAt k (m .a)) _ in
-        let sizes = Records.fit-sizes (freshPool (m .b) (m .c)) (sym (ap poolFitb fresh) ∙ pool-fit (m .a) (next k m) T made slots) refl in
-        let all = ap (λ (y : Pool). y .free) fresh ∙ Records.fresh-free (m .b) (m .c) sizes ∙ sym (ap blocksOf fresh) in
-        subst (λ (b : ℕ). PoolAccount (m .a) b (next k m) ms) all (pool-from (m .a) ms (next k m) T made slots u)
+        let slots = ap (λ (y : Pool). length (y .list)) fresh ∙ Records.listing-slots (poolAt k (m .request .a)) _ in
+        let sizes = Records.fit-sizes (freshPool (m .request .b) (m .request .c)) (sym (ap poolFitb fresh) ∙ pool-fit (m .request .a) (next k m) T made slots) refl in
+        let all = ap (λ (y : Pool). y .free) fresh ∙ Records.fresh-free (m .request .b) (m .request .c) sizes ∙ sym (ap blocksOf fresh) in
+        subst (λ (b : ℕ). PoolAccount (m .request .a) b (next k m) ms) all (pool-from (m .request .a) ms (next k m) T made slots u)
 
-    pool-total : blocksOf (poolAt (next k m) (m .a)) ≡ m .c / (m .b + 4)
+    pool-total : blocksOf (poolAt (next k m) (m .request .a)) ≡ m .request .c / (m .request .b + 4)
     unfolding freshPool listing blocksOf
     pool-total = ap blocksOf fresh
 

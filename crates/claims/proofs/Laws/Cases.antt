@@ -1,4 +1,4 @@
--- The bench cases, computed.
+-- The worked cases, computed.
 use mathlib.Core.Path.{refl}
 use Rattle.lines.specs.Lines as LinesLines
 use Rattle.lines.specs.Lists as LinesLists
@@ -17,10 +17,11 @@ use Rattle.blocks.specs.Views as BlocksViews
 use Rattle.calls.specs.Calls as CallsCalls
 use Rattle.calls.specs.Held as CallsHeld
 use Rattle.calls.specs.Messages as CallsMessages
-use Rattle.calls.specs.Refusals as CallsRefusals
+use Rattle.calls.specs.Callers as CallsCallers
 use Rattle.waiting.specs.Fit as WaitingFit
 use Rattle.waiting.specs.Ticks as WaitingTicks
 use Rattle.kernel.specs.Answers as KernelAnswers
+use Rattle.kernel.specs.Loops as KernelLoops
 use Rattle.kernel.specs.Edits as KernelEdits
 use Rattle.kernel.specs.Effects as KernelEffects
 use Rattle.kernel.specs.Threads as KernelThreads
@@ -29,15 +30,17 @@ use Rattle.kernel.specs.Semaphores as KernelSemaphores
 use Rattle.kernel.specs.Queues as KernelQueues
 use Rattle.kernel.specs.Groups as KernelGroups
 use Rattle.kernel.specs.Pools as KernelPools
+use Rattle.kernel.specs.Refusals as KernelRefusals
+use Rattle.kernel.specs.Roles as KernelRoles
 use Rattle.kernel.specs.General as KernelGeneral
 use Rattle.kernel.specs.Sound as KernelSound
 use Rattle.kernel.specs.Tables as KernelTables
 use Rattle.kernel.specs.Views as KernelViews
 use Rattle.claims.specs.Lists.{answer}
-use Rattle.claims.specs.Cases.{said, after, withCount, p3a, p3b, waits, p9, asks, p4, p5, p7, receive, p8, timedOutGet, Cases}
+use Rattle.claims.specs.Cases.{said, made, withCount, p3a, p3b, waits, p9, asks, p4, p5, p7, receive, p8, timedOutGet, Cases}
 
 pub cases : Cases
-unfolding said after withCount p3a p3b waits p9 asks p4 p5 p7 receive p8 timedOutGet answer LinesLines.members LinesLines.pad LinesLines.lineOf LinesLines.cleanb LinesLines.slotOf LinesLines.tally LinesLines.betterOf LinesLines.bestWithKey LinesLists.numbersFrom LinesLists.filter LinesLists.without LinesLists.toEnd LinesLists.toFront LinesLists.count LinesLists.below LinesLists.first LinesLists.firstWith LinesLists.leastOf LinesLists.firstOfKey LinesLists.bestOf LinesLists.prioritised LinesLists.unionOf LinesLogic.oneIf LinesLogic.implies LinesLogic.allBelow LinesSlots.zeroFrom SchedulerChanges.withLevels SchedulerChanges.priorityChanged SchedulerChanges.preemptionChanged SchedulerChoice.bestAmong SchedulerChoice.bestReady SchedulerChoice.bestMarked SchedulerChoice.staysb SchedulerChoice.overtakesb SchedulerChoice.nextOf SchedulerChoice.withMark SchedulerChoice.replaced SchedulerChoice.ran SchedulerChoice.rescheduled SchedulerChoice.relinquished SchedulerChoice.wantedb SchedulerChoice.consideredOf SchedulerOrders.threadAt SchedulerOrders.lineAt SchedulerOrders.firstAt SchedulerOrders.withThread SchedulerOrders.withOrder SchedulerOrders.withRunner SchedulerOrders.started SchedulerOrders.moved SchedulerOrders.movedFront SchedulerOrders.joined SchedulerOrders.woken SchedulerOrders.keyAt SchedulerOrders.keysAt SchedulerOrders.prioritisedAt SchedulerSound.limitsb SchedulerSound.markFitb SchedulerSound.suspensionFitb SchedulerSound.ticksFitb SchedulerSound.objectFitb SchedulerSound.zerob SchedulerSound.fitb SchedulerSound.countedb SchedulerSound.steadyb SchedulerSound.runsb SchedulerSound.soundb SchedulerThreads.uncreated SchedulerThreads.noThread SchedulerThreads.readyb SchedulerThreads.sleepsb SchedulerThreads.waitsb SchedulerThreads.pausedb SchedulerThreads.markedb SchedulerThreads.standsb SchedulerThreads.numberOf SchedulerThreads.placedb SchedulerThreads.inState SchedulerThreads.awake SchedulerThreads.withSuspension SchedulerThreads.created ObjectsGroups.noGroup ObjectsGroups.groupWith ObjectsGroups.orOptionb ObjectsGroups.someSetb ObjectsGroups.allSetb ObjectsGroups.metb ObjectsGroups.clearsb ObjectsGroups.clearOf ObjectsGroups.lessFlags ObjectsQueues.noQueue ObjectsQueues.capacityOf ObjectsQueues.emptyb ObjectsQueues.fullb ObjectsQueues.roomb ObjectsQueues.usedWords ObjectsQueues.sizesFitb ObjectsQueues.queueLimitsb ObjectsQueues.storeFitb ObjectsQueues.queueZerob ObjectsQueues.queueFitb ObjectsQueues.emptyQueue ObjectsQueues.storedWords ObjectsQueues.storing ObjectsQueues.oldest ObjectsQueues.withoutOldest ObjectsQueues.withLast ObjectsQueues.withFirst ObjectsQueues.withSent ObjectsQueues.givenPast ObjectsQueues.leftPast ObjectsQueues.flushed ObjectsSemaphores.noSemaphore BlocksPools.noPool BlocksPools.blocksOf BlocksPools.freeBlocks BlocksPools.blockSizesb BlocksPools.poolLimitsb BlocksPools.onceb BlocksPools.listingb BlocksPools.listFitb BlocksPools.poolZerob BlocksPools.poolFitb BlocksPools.listing BlocksPools.freshPool BlocksPools.usedb BlocksPools.nextBlock BlocksPools.withoutNext BlocksPools.withFree BlocksPools.blockStart BlocksViews.viewedb BlocksViews.extentOf BlocksViews.viewed BlocksViews.onwards BlocksViews.written BlocksViews.p8 BlocksViews.p8Area CallsCalls.knownCall CallsCalls.decoded CallsHeld.holding CallsHeld.sending CallsHeld.requesting CallsMessages.messageIn CallsRefusals.unless CallsRefusals.firstOf CallsRefusals.createRefusal CallsRefusals.deleteRefusal CallsRefusals.resumeRefusal CallsRefusals.suspendRefusal CallsRefusals.terminateRefusal CallsRefusals.resetRefusal CallsRefusals.threadOnlyRefusal CallsRefusals.abortRefusal CallsRefusals.priorityRefusal CallsRefusals.preemptionRefusal CallsRefusals.tickRefusal CallsRefusals.readRefusal CallsRefusals.semaphoreCreateRefusal CallsRefusals.semaphoreDeleteRefusal CallsRefusals.semaphoreGetRefusal CallsRefusals.semaphoreRefusal CallsRefusals.ceilingRefusal CallsRefusals.queueCreateRefusal CallsRefusals.queueDeleteRefusal CallsRefusals.sendRefusal CallsRefusals.receiveRefusal CallsRefusals.queueRefusal CallsRefusals.groupCreateRefusal CallsRefusals.groupDeleteRefusal CallsRefusals.setRefusal CallsRefusals.getRefusal CallsRefusals.poolCreateRefusal CallsRefusals.poolDeleteRefusal CallsRefusals.allocateRefusal CallsRefusals.releaseRefusal CallsRefusals.poolRefusal WaitingFit.blankFrom WaitingFit.waitsOnb WaitingFit.sendsb WaitingFit.statusFitb WaitingFit.wordsFitb WaitingFit.senderFitb WaitingFit.requestFitb WaitingFit.unheldFitb WaitingFit.heldFitb WaitingFit.semaphoreWaitb WaitingFit.queueWaitb WaitingFit.groupWaitb WaitingFit.poolWaitb WaitingFit.semaphoresFitb WaitingFit.queuesFitb WaitingFit.groupsFitb WaitingFit.poolsFitb WaitingTicks.timedb WaitingTicks.timeoutStatus WaitingTicks.withTicks WaitingTicks.lastTickb KernelAnswers.answerOf KernelAnswers.refused KernelAnswers.answered KernelEdits.statusBy KernelEdits.recordBy KernelEdits.heldBy KernelEdits.frontb KernelEdits.edited KernelEdits.applied KernelEdits.gathered KernelEdits.endsb KernelEdits.statusOf KernelEdits.carriedOut KernelEdits.guarded KernelEffects.endsEach KernelEffects.oneMore KernelEffects.storeEffect KernelEffects.closeEffect KernelEffects.rankEffect KernelEffects.serveEffect KernelEffects.giveEffect KernelEffects.counting KernelEffects.takeEffect KernelThreads.createEffect KernelThreads.deleteEffect KernelThreads.resumeEffect KernelThreads.suspendEffect KernelThreads.terminateEffect KernelThreads.restEffect KernelThreads.relinquishEffect KernelThreads.sleepEffect KernelThreads.abortEffect KernelThreads.priorityEffect KernelThreads.preemptionEffect KernelThreads.stateEffect KernelThreads.wordsEffect KernelClock.clockEffect KernelClock.clockSetEffect KernelClock.tickOf KernelClock.ticksBelow KernelClock.tickEffect KernelSemaphores.semaphoreGetEffect KernelSemaphores.putEffect KernelQueues.sendEffect KernelQueues.pastEffect KernelQueues.receiveEffect KernelQueues.flushEffect KernelGroups.wokenBy KernelGroups.clearsBy KernelGroups.setOrEffect KernelGroups.setEffect KernelGroups.flagsGetEffect KernelPools.allocateEffect KernelPools.releaseEffect KernelGeneral.reasonOf KernelGeneral.effectOf KernelGeneral.service KernelGeneral.byCaller KernelGeneral.byRecord KernelGeneral.step KernelGeneral.unsound KernelGeneral.call KernelSound.waitFitb KernelSound.soundb KernelTables.started KernelTables.heldAt KernelTables.semaphoreAt KernelTables.queueAt KernelTables.groupAt KernelTables.poolAt KernelTables.withScheduler KernelTables.withHeld KernelTables.withSemaphore KernelTables.withQueue KernelTables.withGroup KernelTables.withPool KernelTables.withClock KernelViews.viewedPool KernelViews.blockExtent KernelViews.blockView KernelViews.blockWritten
+unfolding said made withCount p3a p3b waits p9 asks p4 p5 p7 receive p8 timedOutGet answer LinesLines.members LinesLines.pad LinesLines.lineOf LinesLines.cleanb LinesLists.numbersFrom LinesLists.filter LinesLists.without LinesLists.toEnd LinesLists.toFront LinesLists.count LinesLists.below LinesLists.first LinesLists.firstWith LinesLists.leastb LinesLists.fronted LinesLists.bestOf LinesLists.prioritised LinesLists.unionOf LinesLogic.oneIf LinesLogic.implies LinesLogic.allBelow LinesSlots.zeroFrom SchedulerChanges.withLevels SchedulerChanges.priorityChanged SchedulerChanges.preemptionChanged SchedulerChoice.bestAmong SchedulerChoice.bestReady SchedulerChoice.bestMarked SchedulerChoice.staysb SchedulerChoice.overtakesb SchedulerChoice.nextOf SchedulerChoice.withMark SchedulerChoice.replaced SchedulerChoice.dispatched SchedulerChoice.rescheduled SchedulerChoice.relinquished SchedulerOrders.threadAt SchedulerOrders.lineAt SchedulerOrders.firstAt SchedulerOrders.withThread SchedulerOrders.withOrder SchedulerOrders.withRunner SchedulerOrders.idle SchedulerOrders.moved SchedulerOrders.movedFront SchedulerOrders.joined SchedulerOrders.woken SchedulerOrders.prioritisedAt SchedulerSound.limitsb SchedulerSound.markFitb SchedulerSound.suspensionFitb SchedulerSound.ticksFitb SchedulerSound.objectFitb SchedulerSound.zerob SchedulerSound.fitb SchedulerSound.countedb SchedulerSound.steadyb SchedulerSound.runsb SchedulerSound.soundb SchedulerThreads.uncreated SchedulerThreads.readyb SchedulerThreads.sleepsb SchedulerThreads.waitsb SchedulerThreads.pausedb SchedulerThreads.markedb SchedulerThreads.standsb SchedulerThreads.numberOf SchedulerThreads.placedb SchedulerThreads.inState SchedulerThreads.awake SchedulerThreads.withSuspension SchedulerThreads.created ObjectsGroups.noGroup ObjectsGroups.groupWith ObjectsGroups.orOptionb ObjectsGroups.someSetb ObjectsGroups.allSetb ObjectsGroups.metb ObjectsGroups.clearsb ObjectsGroups.clearOf ObjectsGroups.lessFlags ObjectsQueues.noQueue ObjectsQueues.capacityOf ObjectsQueues.emptyb ObjectsQueues.fullb ObjectsQueues.roomb ObjectsQueues.usedWords ObjectsQueues.sizesFitb ObjectsQueues.queueLimitsb ObjectsQueues.storeFitb ObjectsQueues.queueZerob ObjectsQueues.queueFitb ObjectsQueues.emptyQueue ObjectsQueues.storedWords ObjectsQueues.storing ObjectsQueues.oldest ObjectsQueues.withoutOldest ObjectsQueues.withLast ObjectsQueues.withFirst ObjectsQueues.withSent ObjectsQueues.givenPast ObjectsQueues.leftPast ObjectsQueues.flushed ObjectsSemaphores.noSemaphore BlocksPools.noPool BlocksPools.blocksOf BlocksPools.freeBlocks BlocksPools.blockSizesb BlocksPools.poolLimitsb BlocksPools.onceb BlocksPools.listingb BlocksPools.listFitb BlocksPools.poolZerob BlocksPools.poolFitb BlocksPools.listing BlocksPools.freshPool BlocksPools.usedb BlocksPools.nextBlock BlocksPools.withoutNext BlocksPools.withFree BlocksPools.blockStart BlocksViews.viewedb BlocksViews.extentOf BlocksViews.viewed BlocksViews.onwards BlocksViews.written BlocksViews.p8 BlocksViews.p8Area CallsCalls.knownCall CallsCalls.decoded CallsHeld.heldWords CallsHeld.messageOf CallsHeld.holding CallsHeld.sending CallsHeld.requesting CallsMessages.messageIn WaitingFit.blankFrom WaitingFit.waitsOnb WaitingFit.sendsb WaitingFit.statusFitb WaitingFit.wordsFitb WaitingFit.senderFitb WaitingFit.requestFitb WaitingFit.unheldFitb WaitingFit.heldFitb WaitingFit.semaphoreWaitb WaitingFit.queueWaitb WaitingFit.groupWaitb WaitingFit.poolWaitb WaitingFit.semaphoresFitb WaitingFit.queuesFitb WaitingFit.groupsFitb WaitingFit.poolsFitb WaitingTicks.timedb WaitingTicks.timeoutStatus WaitingTicks.withTicks WaitingTicks.lastTickb KernelAnswers.answerOf KernelAnswers.refused KernelLoops.answered KernelEdits.statusBy KernelEdits.recordBy KernelEdits.heldBy KernelEdits.frontb KernelEdits.edited KernelEdits.applied KernelEdits.gathered KernelEdits.endsb KernelEdits.statusOf KernelEdits.carriedOut KernelEdits.guarded KernelEffects.endsEach KernelEffects.oneMore KernelEffects.storeEffect KernelEffects.closeEffect KernelEffects.rankEffect KernelEffects.serveEffect KernelEffects.giveEffect KernelEffects.counting KernelEffects.takeEffect KernelThreads.createEffect KernelThreads.deleteEffect KernelThreads.resumeEffect KernelThreads.suspendEffect KernelThreads.terminateEffect KernelThreads.restEffect KernelThreads.relinquishEffect KernelThreads.sleepEffect KernelThreads.abortEffect KernelThreads.priorityEffect KernelThreads.preemptionEffect KernelThreads.stateEffect KernelThreads.wordsEffect KernelClock.clockEffect KernelClock.clockSetEffect KernelClock.tickOf KernelClock.ticksBelow KernelClock.tickEffect KernelSemaphores.semaphoreGetEffect KernelSemaphores.putEffect KernelQueues.sendEffect KernelQueues.pastEffect KernelQueues.receiveEffect KernelQueues.flushEffect KernelGroups.wokenBy KernelGroups.clearsBy KernelGroups.setOrEffect KernelGroups.setEffect KernelGroups.flagsGetEffect KernelPools.allocateEffect KernelPools.releaseEffect CallsCallers.allowedb KernelRoles.limitOf KernelRefusals.refusals KernelRefusals.firstReason KernelRefusals.reasonOf KernelGeneral.effectOf KernelGeneral.stepOf KernelGeneral.step KernelGeneral.unsound KernelGeneral.call KernelSound.waitFitb KernelSound.soundb KernelTables.started KernelTables.heldAt KernelTables.semaphoreAt KernelTables.queueAt KernelTables.groupAt KernelTables.poolAt KernelTables.withScheduler KernelTables.withHeld KernelTables.withSemaphore KernelTables.withQueue KernelTables.withGroup KernelTables.withPool KernelTables.withClock KernelViews.viewedPool KernelViews.blockExtent KernelViews.blockView KernelViews.blockWritten
 cases =
     record {
       p1 = refl;

@@ -1,4 +1,4 @@
--- Demand 3, over every list of calls.
+-- First come, first served, over every list of calls (rules 13.3, 13.4).
 use mathlib.Core.Path.{_≡_, refl, ap, _∙_}
 use mathlib.Core.List.{List, [], _∷_, _++_}
 use mathlib.Core.Bool.{true, _&&_}
@@ -13,8 +13,8 @@ use Rattle.kernel.specs.declared.Kernel.{Kernel}
 use Rattle.kernel.specs.Kinds.{Kind}
 use Rattle.kernel.specs.Sound.{Sound}
 use Rattle.kernel.specs.Uses.{rolledb}
-use Rattle.claims.specs.Lists.{Request, answer, next, after}
-use Rattle.claims.specs.Rolls.{Entry, names, rollOf, givesb, doneb, rolled, rollAfter, lastsb, Waits, startRoll, NoPrioritiseOrDelete, KeptAll, gave, NoneServed, Undisturbed, Claim}
+use Rattle.claims.specs.Lists.{Made, answer, next, after}
+use Rattle.claims.specs.Rolls.{Entry, names, rollOf, givesb, succeedsb, rolled, rollAfter, lastsb, Waits, startRoll, NoPrioritiseOrDelete, KeptAll, gave, NoneServed, Undisturbed, Claim}
 use Rattle.claims.proofs.Laws.Members
 use Rattle.claims.proofs.Laws.Rolls
 use Rattle.claims.proofs.Laws.Counts
@@ -26,7 +26,7 @@ length-roll k (x ∷ xs) = ap suc (length-roll k xs)
 
 module _ (d : Kind) (o : rolledb d ≡ true) (n t : ℕ) where
   -- (a) and (b)
-  kept-all : (ms : List Request) (k : Kernel) (r : List Entry) → Rolls.Lasts d n t k r → NoPrioritiseOrDelete d n k ms → KeptAll d n t k r ms × NoneServed d n t k r ms
+  kept-all : (ms : List Made) (k : Kernel) (r : List Entry) → Rolls.Lasts d n t k r → NoPrioritiseOrDelete d n k ms → KeptAll d n t k r ms × NoneServed d n t k r ms
   kept-all [] k r L c = (tt, tt)
   kept-all (m ∷ ms) k r L c =
       let s = rolled d n m (answer k m) r in
@@ -34,12 +34,12 @@ module _ (d : Kind) (o : rolledb d ≡ true) (n t : ℕ) where
       ((Rolls.kept d o n t k r L m (c .0), λ w. more w .0), (Rolls.none-taken d o n t k r L m, λ w. more w .1))
 
   -- the wait lasts until those ahead are served
-  lasts-after : (ms : List Request) (k : Kernel) (r : List Entry) (ahead : List ℕ) → names r ≡ ahead ++ (t ∷ []) → Rolls.Lasts d n t k r → NoPrioritiseOrDelete d n k ms → Undisturbed d n k r ms → gave d n k ms ≤ length ahead
+  lasts-after : (ms : List Made) (k : Kernel) (r : List Entry) (ahead : List ℕ) → names r ≡ ahead ++ (t ∷ []) → Rolls.Lasts d n t k r → NoPrioritiseOrDelete d n k ms → Undisturbed d n k r ms → gave d n k ms ≤ length ahead
       → Rolls.Lasts d n t (after k ms) (rollAfter d n k r ms)
   unfolding after rollAfter gave lastsb
   lasts-after [] k r ahead q L c U l = L
   lasts-after (m ∷ ms) k r ahead q L c U l =
-      let g = oneIf (givesb d n m && doneb (answer k m)) in
+      let g = oneIf (givesb d n m && succeedsb (answer k m)) in
       let s = rolled d n m (answer k m) r in
       let shape : names s ≡ drop g ahead ++ (t ∷ []) = Counts.names-rolled d n m k r (U .0) ∙ ap (drop g) q ∙ drop-append-le g ahead (t ∷ []) (omega (arith, l)) in
       let here : 0 < count t (names s) = rw shape (Members.stands-last (drop g ahead) t) in

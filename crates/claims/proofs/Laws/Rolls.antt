@@ -1,4 +1,4 @@
--- Demand 3 for one call: while a thread's wait lasts, the roll goes over into the roll after the call.
+-- First come, first served, for one call: while a thread's wait lasts, the roll goes over into the roll after the call.
 use mathlib.Core.Path.{_≡_, refl, sym, ap, _∙_, subst}
 use mathlib.Core.List.{List, [], _∷_, _++_}
 use mathlib.Core.Bool.{Bool, true, false, _&&_, _||_}
@@ -18,8 +18,8 @@ use Rattle.scheduler.specs.Threads.{onQueue, placedb, inState}
 use Rattle.scheduler.specs.Orders.{lineAt, firstAt}
 use Rattle.scheduler.proofs.Laws.States
 use Rattle.calls.specs.declared.held.Held.{Held}
-use Rattle.calls.specs.Held.{noHeld, holding}
-use Rattle.calls.specs.Refusals.{finishedb}
+use Rattle.calls.specs.Held.{noHeld, holding, heldWords}
+use Rattle.scheduler.specs.Threads.{finishedb}
 use Rattle.calls.specs.Statuses as Statuses
 use Rattle.kernel.proofs.Laws.Edits
 use Rattle.kernel.proofs.Laws.Objects
@@ -37,12 +37,13 @@ use Rattle.kernel.specs.Edits.Cause.{served}
 use Rattle.kernel.specs.Edits.Move.{ends, starts, stops, turns}
 use Rattle.kernel.specs.Edits.Edit.{moves}
 use Rattle.kernel.specs.Edits.Success.{done, lifted, waits}
-use Rattle.kernel.specs.Roles.{rowOf, oneOf, limitOf, mayMoveb, mayb, allb}
+use Rattle.calls.specs.Callers.{oneOf}
+use Rattle.kernel.specs.Roles.{rowOf, limitOf, mayMoveb, mayb, allb}
 use Rattle.kernel.specs.Effects.{does}
 use Rattle.kernel.specs.Threads.{terminateEffect, abortEffect}
 use Rattle.kernel.specs.Uses.{Taker, rolledb, givenWords, Role}
-use Rattle.claims.specs.Lists.{Request, answer, next}
-use Rattle.claims.specs.Rolls.{Entry, names, rest, each, unnamed, ticked, onb, givesb, takesb, prioritisesOrDeletesb, doneb, strikeOut, rolled, rollOf, lastsb, Waits, startRoll, Kept, Served}
+use Rattle.claims.specs.Lists.{Made, answer, next}
+use Rattle.claims.specs.Rolls.{Entry, names, rest, each, unnamed, ticked, onb, givesb, takesb, prioritisesOrDeletesb, succeedsb, strikeOut, rolled, rollOf, lastsb, Waits, startRoll, Kept, Served}
 use Rattle.claims.proofs.Laws.Steps.{target, next-sound, by-step}
 use Rattle.claims.proofs.Laws.Members
 use Rattle.claims.proofs.Laws.Serving
@@ -55,7 +56,7 @@ pub record Lasts (d : Kind) (n t : ℕ) (k : Kernel) (r : List Entry) : Type 0 w
   pub stands : 0 < count t (names r)
   pub takes : heldAt k t .sending ≡ false
 
-module _ (d : Kind) (o : rolledb d ≡ true) (n t : ℕ) (k : Kernel) (r : List Entry) (L : Lasts d n t k r) (m : Request) where
+module _ (d : Kind) (o : rolledb d ≡ true) (n t : ℕ) (k : Kernel) (r : List Entry) (L : Lasts d n t k r) (m : Made) where
   abbrev F : Fit k
   F = L .sound .fit
 
@@ -91,14 +92,14 @@ module _ (d : Kind) (o : rolledb d ≡ true) (n t : ℕ) (k : Kernel) (r : List 
       by-test (eqb i 1) (λ a. omega (arith, s, waiters, eqb-true i 1 a)) (λ a. omega (arith, s, waiters, eqb-true i 2 (or-rest (eqb i 1) (eqb i 2) f a)))
 
   -- a thread past the last is no member, nor is the number that stands for it
-  same-target : limitOf (m .number) ≡ 32 → without (m .a) (names r) ≡ without (target m) (names r)
+  same-target : limitOf (m .request .number) ≡ 32 → without (m .request .a) (names r) ≡ without (target m) (names r)
   same-target l =
-      by-eq (m .a) (target m)
+      by-eq (m .request .a) (target m)
       (λ q. ap (λ (i : ℕ). without i (names r)) q)
-      (λ q. not-member (m .a) (λ c. let y = small (m .a) c in q (omega (arith, l, y))) ∙ sym (not-member (target m) (λ c. let y = small (target m) c in q (omega (arith, l, y)))))
+      (λ q. not-member (m .request .a) (λ c. let y = small (m .request .a) c in q (omega (arith, l, y))) ∙ sym (not-member (target m) (λ c. let y = small (target m) c in q (omega (arith, l, y)))))
 
   -- ---- a call that is carried out
-  module _ (e : Effect) (P : Proper k (m .number) (target m) e) (R : Role k (m .number) (target m) (m .b) (m .c) (m .messages) e) where
+  module _ (e : Effect) (P : Proper k (m .request .number) (target m) e) (R : Role k (m .request .number) (target m) (m .request .b) (m .request .c) (m .messages) e) where
     abbrev es : List Edit
     es = e .edits
 
@@ -106,11 +107,11 @@ module _ (d : Kind) (o : rolledb d ≡ true) (n t : ℕ) (k : Kernel) (r : List 
     x = carriedOut k e .kernel
 
     -- a giving call serves the first
-    first-served : givesb d n m ≡ true → e ≡ does (moves (firstAt (k .scheduler) p) (ends (served d n) (givenWords d k n (m .b) (m .c) (m .messages))) ∷ [])
+    first-served : givesb d n m ≡ true → e ≡ does (moves (firstAt (k .scheduler) p) (ends (served d n) (givenWords d k n (m .request .b) (m .request .c) (m .messages))) ∷ [])
     first-served g = Serving.gives-at d n low m k e R g .first o t taker
 
     left : (fs : List Edit) → es ≡ fs → allb Lines.unstartedb es ≡ true → allb (Lines.unrankedb p) es ≡ true → Members.Leaves p k x (movers (leavesb p) fs) (counted fs)
-    left fs q s f = subst (λ (l : List Edit). Members.Leaves p k x (movers (leavesb p) l) (counted l)) q (Serving.leaves-done p waiters k F (m .number) (target m) e P s f)
+    left fs q s f = subst (λ (l : List Edit). Members.Leaves p k x (movers (leavesb p) l) (counted l)) q (Serving.leaves-done p waiters k F (m .request .number) (target m) e P s f)
 
     -- ---- with 0x00
     module _ (z : e .success ≡ done) (kept-order : prioritisesOrDeletesb d n m ≡ false) where
@@ -124,28 +125,28 @@ module _ (d : Kind) (o : rolledb d ≡ true) (n t : ℕ) (k : Kernel) (r : List 
           Members.passes-first p k x (F .steady) r t (L .stands)
           (subst (λ (b : Bool). Members.Leaves p k x ((if b then f ∷ [] else []) ++ []) []) (Lines.place-same p p refl) (left-by _ (ap (λ (y : Effect). y .edits) (first-served g)))) (L .rolls)
 
-      named-by : (ts : List ℕ) → Members.Leaves p k x ts [] → limitOf (m .number) ≡ 32 → without (target m) (names r) ≡ less ts (names r) → Members.Passes p k x r (each (unnamed (m .a)) r)
-      named-by ts A l s = Members.passes-named p k x ts (m .a) r A (L .rolls) (same-target l ∙ s)
+      named-by : (ts : List ℕ) → Members.Leaves p k x ts [] → limitOf (m .request .number) ≡ 32 → without (target m) (names r) ≡ less ts (names r) → Members.Passes p k x r (each (unnamed (m .request .a)) r)
+      named-by ts A l s = Members.passes-named p k x ts (m .request .a) r A (L .rolls) (same-target l ∙ s)
 
-      named-passes : (eqb (m .number) 5 || eqb (m .number) 10) ≡ true → Members.Passes p k x r (each (unnamed (m .a)) r)
+      named-passes : (eqb (m .request .number) 5 || eqb (m .request .number) 10) ≡ true → Members.Passes p k x r (each (unnamed (m .request .a)) r)
       unfolding gathered leavesb limitOf terminateEffect abortEffect
       named-passes g =
           let a = target m in
           let one = sym (Less.less-one a (names r)) in
-          by-test (eqb (m .number) 5)
-          (λ y. let i = eqb-true (m .number) 5 y in
+          by-test (eqb (m .request .number) 5)
+          (λ y. let i = eqb-true (m .request .number) 5 y in
           let q = ap (λ (f : Effect). f .edits) (Does.when (R .4) y) in
           by-test (finishedb (threadOf k a))
           (λ f. named-by [] (left-by [] (q ∙ rw f)) (ap limitOf i) (not-member a (finished-not a f) ∙ sym (Less.less-none (names r))))
           (λ f. named-by (a ∷ []) (left-by (moves a stops ∷ []) (q ∙ rw f)) (ap limitOf i) one))
-          (λ y. let i = eqb-true (m .number) 10 (or-rest (eqb (m .number) 5) (eqb (m .number) 10) g y) in
-          named-by (a ∷ []) (left-by _ (ap (λ (f : Effect). f .edits) (Does.when (R .5) (eq-eqb (m .number) 10 i)))) (ap limitOf i) one)
+          (λ y. let i = eqb-true (m .request .number) 10 (or-rest (eqb (m .request .number) 5) (eqb (m .request .number) 10) g y) in
+          named-by (a ∷ []) (left-by _ (ap (λ (f : Effect). f .edits) (Does.when (R .5) (eq-eqb (m .request .number) 10 i)))) (ap limitOf i) one)
 
-      ticked-passes : m .number ≡ 15 → Members.Passes p k x r (each ticked r)
+      ticked-passes : m .request .number ≡ 15 → Members.Passes p k x r (each ticked r)
       ticked-passes i =
-          Members.passes-ticked p k x (left-by _ (ap (λ (f : Effect). f .edits) (Does.when (R .6) (eq-eqb (m .number) 15 i)))) r (λ v c. (small v c, Fits.placed-paused p waiters (threadOf k v) (placed v c))) (L .rolls)
+          Members.passes-ticked p k x (left-by _ (ap (λ (f : Effect). f .edits) (Does.when (R .6) (eq-eqb (m .request .number) 15 i)))) r (λ v c. (small v c, Fits.placed-paused p waiters (threadOf k v) (placed v c))) (L .rolls)
 
-      other-passes : givesb d n m ≡ false → (eqb (m .number) 5 || eqb (m .number) 10) ≡ false → eqb (m .number) 15 ≡ false → Members.Passes p k x r r
+      other-passes : givesb d n m ≡ false → (eqb (m .request .number) 5 || eqb (m .request .number) 10) ≡ false → eqb (m .request .number) 15 ≡ false → Members.Passes p k x r r
       unfolding gathered
       other-passes g i j =
           let taken : takesb d n m ≡ false = by-test (takesb d n m) (λ y. Does.waits-not-done (sym (Serving.takes-at d n low m k e R y .waits o t taker) ∙ z)) (λ y. y) in
@@ -157,8 +158,8 @@ module _ (d : Kind) (o : rolledb d ≡ true) (n t : ℕ) (k : Kernel) (r : List 
       unfolding strikeOut
       done-passes =
           by-choice (Members.Passes p k x r) (givesb d n m) _ _ first-passes
-          (λ g. by-choice (Members.Passes p k x r) (eqb (m .number) 5 || eqb (m .number) 10) _ _ named-passes
-          (λ i. by-choice (Members.Passes p k x r) (eqb (m .number) 15) _ _ (λ j. ticked-passes (eqb-true (m .number) 15 j)) (other-passes g i)))
+          (λ g. by-choice (Members.Passes p k x r) (eqb (m .request .number) 5 || eqb (m .request .number) 10) _ _ named-passes
+          (λ i. by-choice (Members.Passes p k x r) (eqb (m .request .number) 15) _ _ (λ j. ticked-passes (eqb-true (m .request .number) 15 j)) (other-passes g i)))
 
     -- ---- with 0x19: one record changes
     lifted-passes : e .success ≡ lifted → Members.Passes p k x r r
@@ -167,23 +168,23 @@ module _ (d : Kind) (o : rolledb d ≡ true) (n t : ℕ) (k : Kernel) (r : List 
 
     -- ---- with 0x101: the caller begins to wait
     -- who would join this line at the front would send to a queue on which somebody waits to receive
-    front-gives : (v : ℕ) (state object ticks : ℕ) (h : Held) → mayMoveb (m .number) (target m) v (starts true state object ticks h) ≡ true → placedb p (inState state object ticks (threadOf k v)) ≡ true → givesb d n m ≡ true
+    front-gives : (v : ℕ) (state object ticks : ℕ) (h : Held) → mayMoveb (m .request .number) (target m) v (starts true state object ticks h) ≡ true → placedb p (inState state object ticks (threadOf k v)) ≡ true → givesb d n m ≡ true
     unfolding mayMoveb implies inState givesb
     front-gives v state object ticks h y a =
-        let send = and-left (eqb (m .number) 25 && eqb state onQueue) (eqb object (target m)) y in
-        let number = eqb-true (m .number) 25 (and-left (eqb (m .number) 25) (eqb state onQueue) send) in
-        let same = eqb-true state onQueue (and-right (eqb (m .number) 25) (eqb state onQueue) send) in
-        let there = eqb-true object (target m) (and-right (eqb (m .number) 25 && eqb state onQueue) (eqb object (target m)) y) in
+        let send = and-left (eqb (m .request .number) 25 && eqb state onQueue) (eqb object (target m)) y in
+        let number = eqb-true (m .request .number) 25 (and-left (eqb (m .request .number) 25) (eqb state onQueue) send) in
+        let same = eqb-true state onQueue (and-right (eqb (m .request .number) 25) (eqb state onQueue) send) in
+        let there = eqb-true object (target m) (and-right (eqb (m .request .number) 25 && eqb state onQueue) (eqb object (target m)) y) in
         Serving.target-on d n low m (rowOf d .gives) (Serving.own-row d .1) (sym there ∙ Fits.placed-object p waiters _ a)
-        (ap (λ (c : Kind). oneOf (m .number) (rowOf c .gives)) (Objects.same-kind d Kind.queue (sym (Fits.placed-state p _ a) ∙ same)) ∙ ap (λ (i : ℕ). oneOf i (rowOf Kind.queue .gives)) number)
+        (ap (λ (c : Kind). oneOf (m .request .number) (rowOf c .gives)) (Objects.same-kind d Kind.queue (sym (Fits.placed-state p _ a) ∙ same)) ∙ ap (λ (i : ℕ). oneOf i (rowOf Kind.queue .gives)) number)
 
     starts-passes : (v : ℕ) (w : Move) → startsb w ≡ true → es ≡ moves v w ∷ [] → e .success ≡ waits → Members.Passes p k x r r
     unfolding startsb mayb
     starts-passes v (ends c words) s q z = never s refl
     starts-passes v (starts front state object ticks h) s q z =
-        let may = Edits.all-first (mayb (m .number) (target m)) _ [] (ap (allb (mayb (m .number) (target m))) (sym q) ∙ P .may) in
+        let may = Edits.all-first (mayb (m .request .number) (target m)) _ [] (ap (allb (mayb (m .request .number) (target m))) (sym q) ∙ P .may) in
         Members.passes-same p k x r
-        (Serving.leaves-none p waiters k F (m .number) (target m) e P v front state object ticks h q
+        (Serving.leaves-none p waiters k F (m .request .number) (target m) e P v front state object ticks h q
         (λ f. by-test (placedb p (inState state object ticks (threadOf k v)))
         (λ a. Does.waits-not-done (sym z ∙ ap (λ (y : Effect). y .success) (first-served (front-gives v state object ticks h (rw f at may) a))))
         (λ a. a))) (L .rolls)
@@ -206,23 +207,23 @@ module _ (d : Kind) (o : rolledb d ≡ true) (n t : ℕ) (k : Kernel) (r : List 
 
   -- ---- any call
   -- no taking call is served
-  pub none-taken : (takesb d n m && doneb (answer k m)) ≡ false
-  unfolding doneb statusOf
+  pub none-taken : (takesb d n m && succeedsb (answer k m)) ≡ false
+  unfolding succeedsb statusOf
   none-taken =
       by-test (takesb d n m)
       (λ g. rw g (by-step k (L .sound) m (λ s y. eqb s 0 ≡ false) (λ s z. z) (λ e P R. ap (λ (s : Success). eqb (statusOf s) 0) (Serving.takes-at d n low m k e R g .waits o t taker)))) (λ g. rw g)
 
   -- who is alone in the roll is served by a giving call
-  pub serves : names r ≡ t ∷ [] → givesb d n m ≡ true → doneb (answer k m) ≡ true → Served d n t k m
-  unfolding doneb holding firstAt
+  pub serves : names r ≡ t ∷ [] → givesb d n m ≡ true → succeedsb (answer k m) ≡ true → Served d n t k m
+  unfolding succeedsb holding heldWords firstAt
   serves alone g z =
       let first = Lists.begins-first t [] (lineAt (k .scheduler) p) (subst (λ (l : List ℕ). Begins l (lineAt (k .scheduler) p)) alone (L .rolls .begins)) in
-      let h = by-step k (L .sound) m (λ s y. eqb s 0 ≡ true → heldAt y t ≡ holding Statuses.success (givenWords d k n (m .b) (m .c) (m .messages))) (λ s q w. never w q) (λ e P R w. served-holds e P R _ (first-served e P R g) first) z in
-      record { status = ap (λ (y : Held). y .status) h; words = ap (λ (y : Held). y .words) h }
+      let h = by-step k (L .sound) m (λ s y. eqb s 0 ≡ true → heldAt y t ≡ holding Statuses.success (givenWords d k n (m .request .b) (m .request .c) (m .messages))) (λ s q w. never w q) (λ e P R w. served-holds e P R _ (first-served e P R g) first) z in
+      record { status = ap (λ (y : Held). y .status) h; words = ap heldWords h }
 
-  module _ (kept-order : (prioritisesOrDeletesb d n m && doneb (answer k m)) ≡ false) where
+  module _ (kept-order : (prioritisesOrDeletesb d n m && succeedsb (answer k m)) ≡ false) where
     next-passes : Members.Passes p k (next k m) r (rolled d n m (answer k m) r)
-    unfolding rolled doneb
+    unfolding rolled succeedsb
     next-passes =
         by-step k (L .sound) m (λ s y. (eqb s 0 ≡ true → prioritisesOrDeletesb d n m ≡ false) → Members.Passes p k y r (if eqb s 0 then strikeOut d n m r else r))
         (λ s z f. rw z (record { rolls = L .rolls; gone = λ u c i. absurd (omega (arith, c, i)); held = λ u c. refl })) (λ e P R. carried-passes e P R (e .success) refl)

@@ -21,7 +21,7 @@ use Rattle.scheduler.proofs.Laws.States
 use Rattle.scheduler.proofs.Laws.Fairness.{first-placed}
 use Rattle.calls.specs.declared.held.Held.{Held}
 use Rattle.calls.specs.Held.{holding}
-use Rattle.calls.specs.Refusals.{finishedb}
+use Rattle.scheduler.specs.Threads.{finishedb}
 use Rattle.calls.specs.Statuses as Statuses
 use Rattle.waiting.specs.Ticks.{timeoutStatus}
 use Rattle.waiting.specs.Fit.{waitsOnb, heldFitb, statusFitb, wordsFitb, senderFitb}

@@ -32,9 +32,10 @@ use Rattle.kernel.specs.Edits.{Move, recordBy, frontb, Edit, edited, applied, g
 use Rattle.kernel.specs.Edits.Cause.{served, deleted, timedOut, aborted}
 use Rattle.kernel.specs.Edits.Move.{ends, starts, stops, turns}
 use Rattle.kernel.specs.Edits.Edit.{moves, counts}
-use Rattle.kernel.specs.Roles.{rowOf, oneOf, kindOf, limitOf, mayMoveb, mayb, allb}
+use Rattle.calls.specs.Callers.{oneOf}
+use Rattle.kernel.specs.Roles.{rowOf, kindOf, limitOf, mayMoveb, mayb, allb}
 use Rattle.kernel.specs.Uses.{Creates, Takes, Gives, Empties, Role}
-use Rattle.claims.specs.Lists.{Request}
+use Rattle.claims.specs.Lists.{Made}
 use Rattle.claims.specs.Rolls.{onb, givesb, takesb, prioritisesOrDeletesb}
 use Rattle.claims.proofs.Laws.Steps.{target}
 use Rattle.claims.proofs.Laws.Members
@@ -135,30 +136,30 @@ pub own-kind : (d : Kind) (n : ℕ) (l : List ℕ) → Own d l → oneOf n l ≡
 own-kind d n [] own o = never o refl
 own-kind d n (i ∷ l) own o = by-test (eqb n i) (λ e. rw (eqb-true n i e) (own .0)) (λ e. own-kind d n l (own .1) (or-rest (eqb n i) (oneOf n l) o e))
 
-module _ (d : Kind) (n : ℕ) (small : n < sizeOf d) (m : Request) where
+module _ (d : Kind) (n : ℕ) (small : n < sizeOf d) (m : Made) where
   -- its target is the object
-  on-target : (l : List ℕ) → Own d l → onb n m l ≡ true → (target m ≡ n) × (oneOf (m .number) l ≡ true)
+  on-target : (l : List ℕ) → Own d l → onb n m l ≡ true → (target m ≡ n) × (oneOf (m .request .number) l ≡ true)
   unfolding onb
   on-target l own o =
-      let a = eqb-true (m .a) n (and-left (eqb (m .a) n) (oneOf (m .number) l) o) in
-      let y = and-right (eqb (m .a) n) (oneOf (m .number) l) o in
-      let z = own-kind d (m .number) l own y .1 in
+      let a = eqb-true (m .request .a) n (and-left (eqb (m .request .a) n) (oneOf (m .request .number) l) o) in
+      let y = and-right (eqb (m .request .a) n) (oneOf (m .request .number) l) o in
+      let z = own-kind d (m .request .number) l own y .1 in
       (omega (arith, a, z, small), y)
 
-  pub target-on : (l : List ℕ) → Own d l → target m ≡ n → oneOf (m .number) l ≡ true → onb n m l ≡ true
+  pub target-on : (l : List ℕ) → Own d l → target m ≡ n → oneOf (m .request .number) l ≡ true → onb n m l ≡ true
   unfolding onb
-  target-on l own a o = let z = own-kind d (m .number) l own o .1 in and-in (eqb (m .a) n) (oneOf (m .number) l) (eq-eqb (m .a) n (omega (arith, a, z, small))) o
+  target-on l own a o = let z = own-kind d (m .request .number) l own o .1 in and-in (eqb (m .request .a) n) (oneOf (m .request .number) l) (eq-eqb (m .request .a) n (omega (arith, a, z, small))) o
 
   -- what holds of every call of a column on its target holds of one on the object
-  at-object : (Q : Kind → ℕ → Type 0) (l : Kind → List ℕ) → Own d (l d) → (oneOf (m .number) (l (kindOf (m .number))) ≡ true → Q (kindOf (m .number)) (target m)) → onb n m (l d) ≡ true → Q d n
+  at-object : (Q : Kind → ℕ → Type 0) (l : Kind → List ℕ) → Own d (l d) → (oneOf (m .request .number) (l (kindOf (m .request .number))) ≡ true → Q (kindOf (m .request .number)) (target m)) → onb n m (l d) ≡ true → Q d n
   at-object Q l own f g =
       let o = on-target (l d) own g in
-      subst (Q d) (o .0) (subst (λ (c : Kind). oneOf (m .number) (l c) ≡ true → Q c (target m)) (own-kind d (m .number) (l d) own (o .1) .0) f (o .1))
+      subst (Q d) (o .0) (subst (λ (c : Kind). oneOf (m .request .number) (l c) ≡ true → Q c (target m)) (own-kind d (m .request .number) (l d) own (o .1) .0) f (o .1))
 
-  module _ (k : Kernel) (e : Effect) (R : Role k (m .number) (target m) (m .b) (m .c) (m .messages) e) where
-    pub gives-at : givesb d n m ≡ true → Gives d k n (m .b) (m .c) (m .messages) e
+  module _ (k : Kernel) (e : Effect) (R : Role k (m .request .number) (target m) (m .request .b) (m .request .c) (m .messages) e) where
+    pub gives-at : givesb d n m ≡ true → Gives d k n (m .request .b) (m .request .c) (m .messages) e
     unfolding givesb
-    gives-at = at-object (λ c i. Gives c k i (m .b) (m .c) (m .messages) e) (λ c. rowOf c .gives) (own-row d .1) (Does.when (R .2))
+    gives-at = at-object (λ c i. Gives c k i (m .request .b) (m .request .c) (m .messages) e) (λ c. rowOf c .gives) (own-row d .1) (Does.when (R .2))
 
     pub takes-at : takesb d n m ≡ true → Takes d k n e
     unfolding takesb
@@ -167,49 +168,49 @@ module _ (d : Kind) (n : ℕ) (small : n < sizeOf d) (m : Request) where
     pub empties-at : onb n m (rowOf d .empties) ≡ true → Empties d k n e
     empties-at = at-object (λ c i. Empties c k i e) (λ c. rowOf c .empties) (own-row d .2) (Does.when (R .3))
 
-    pub creates-at : onb n m (rowOf d .creates) ≡ true → Creates d k n (m .b) (m .c) e
-    creates-at = at-object (λ c i. Creates c k i (m .b) (m .c) e) (λ c. rowOf c .creates) (own-row d .5) (Does.when (R .0))
+    pub creates-at : onb n m (rowOf d .creates) ≡ true → Creates d k n (m .request .b) (m .request .c) e
+    creates-at = at-object (λ c i. Creates c k i (m .request .b) (m .request .c) e) (λ c. rowOf c .creates) (own-row d .5) (Does.when (R .0))
 
   abbrev p : Place
   p = placeOf d n
 
   -- an edit of a column of which the call is not one of this object's is for another place
-  pub elsewhere : (c : Kind) (i : ℕ) (l : Kind → List ℕ) → Own d (l d) → onb n m (l d) ≡ false → eqb i (target m) ≡ true → oneOf (m .number) (l c) ≡ true → sameb p (placeOf c i) ≡ false
+  pub elsewhere : (c : Kind) (i : ℕ) (l : Kind → List ℕ) → Own d (l d) → onb n m (l d) ≡ false → eqb i (target m) ≡ true → oneOf (m .request .number) (l c) ≡ true → sameb p (placeOf c i) ≡ false
   elsewhere c i l own f a y =
       by-test (sameb p (placeOf c i))
       (λ s. let z = Lines.same-place p (placeOf c i) s in
-      never (target-on (l d) own (sym (eqb-true i (target m) a) ∙ sym (ap (λ (x : Place). x .number) z)) (ap (λ (b : Kind). oneOf (m .number) (l b)) (Objects.same-kind d c (ap (λ (x : Place). x .state) z)) ∙ y)) f)
+      never (target-on (l d) own (sym (eqb-true i (target m) a) ∙ sym (ap (λ (x : Place). x .number) z)) (ap (λ (b : Kind). oneOf (m .request .number) (l b)) (Objects.same-kind d c (ap (λ (x : Place). x .state) z)) ∙ y)) f)
       (λ s. s)
 
   -- where the object is not prioritised or deleted
   module _ (kept-order : prioritisesOrDeletesb d n m ≡ false) where
-    unranked : (e : Edit) → mayb (m .number) (target m) e ≡ true → Lines.unrankedb p e ≡ true
+    unranked : (e : Edit) → mayb (m .request .number) (target m) e ≡ true → Lines.unrankedb p e ≡ true
     unfolding mayb Lines.unrankedb prioritisesOrDeletesb
     unranked =
-        Edits.by-edit (λ e. mayb (m .number) (target m) e ≡ true → Lines.unrankedb p e ≡ true) (λ t x y. refl) (λ t f y. refl) (λ t y. refl)
+        Edits.by-edit (λ e. mayb (m .request .number) (target m) e ≡ true → Lines.unrankedb p e ≡ true) (λ t x y. refl) (λ t f y. refl) (λ t y. refl)
         (λ c i y. ap not (elsewhere c i (λ b. rowOf b .prioritises) (own-row d .4) (or-false _ _ kept-order .0) (and-left _ _ y) (and-right (eqb i (target m)) _ y))) (λ c i x y. refl) (λ i y. refl)
 
-    pub all-unranked : (es : List Edit) → allb (mayb (m .number) (target m)) es ≡ true → allb (Lines.unrankedb p) es ≡ true
-    all-unranked = all-from (mayb (m .number) (target m)) (Lines.unrankedb p) unranked
+    pub all-unranked : (es : List Edit) → allb (mayb (m .request .number) (target m)) es ≡ true → allb (Lines.unrankedb p) es ≡ true
+    all-unranked = all-from (mayb (m .request .number) (target m)) (Lines.unrankedb p) unranked
 
     -- and nobody is served there, terminated, aborted or timed out, nobody leaves
-    module _ (g : givesb d n m ≡ false) (t : takesb d n m ≡ false) (z : onb n m (rowOf d .empties) ≡ false) (other : (eqb (m .number) 5 || eqb (m .number) 10) ≡ false) (untimed : eqb (m .number) 15 ≡ false) where
-      stays : (u : ℕ) (x : Move) → mayMoveb (m .number) (target m) u x ≡ true → leavesb p x ≡ false
+    module _ (g : givesb d n m ≡ false) (t : takesb d n m ≡ false) (z : onb n m (rowOf d .empties) ≡ false) (other : (eqb (m .request .number) 5 || eqb (m .request .number) 10) ≡ false) (untimed : eqb (m .request .number) 15 ≡ false) where
+      stays : (u : ℕ) (x : Move) → mayMoveb (m .request .number) (target m) u x ≡ true → leavesb p x ≡ false
       unfolding mayMoveb leavesb givesb takesb prioritisesOrDeletesb
       stays u (ends (served c i) words) y =
           let a = and-left (eqb i (target m)) _ y in
-          by-test (oneOf (m .number) (rowOf c .gives))
+          by-test (oneOf (m .request .number) (rowOf c .gives))
           (λ w. elsewhere c i (λ b. rowOf b .gives) (own-row d .1) g a w)
-          (λ w. by-test (oneOf (m .number) (rowOf c .takes))
+          (λ w. by-test (oneOf (m .request .number) (rowOf c .takes))
           (λ v. elsewhere c i (λ b. rowOf b .takes) (own-row d .0) t a v)
           (λ v. elsewhere c i (λ b. rowOf b .empties) (own-row d .2) z a (rw (w, v) at (and-right (eqb i (target m)) _ y))))
       stays u (ends (deleted c i) words) y = elsewhere c i (λ b. rowOf b .deletes) (own-row d .3) (or-false (onb n m (rowOf d .prioritises)) _ kept-order .1) (and-left _ _ y) (and-right (eqb i (target m)) _ y)
       stays u (ends timedOut words) y = never y untimed
-      stays u (ends aborted words) y = never (and-left (eqb (m .number) 10) _ y) (or-false (eqb (m .number) 5) _ other .1)
+      stays u (ends aborted words) y = never (and-left (eqb (m .request .number) 10) _ y) (or-false (eqb (m .request .number) 5) _ other .1)
       stays u (starts front state object ticks h) y = refl
-      stays u stops y = never (and-left (eqb (m .number) 5) _ y) (or-false (eqb (m .number) 5) _ other .0)
+      stays u stops y = never (and-left (eqb (m .request .number) 5) _ y) (or-false (eqb (m .request .number) 5) _ other .0)
       stays u (turns f h) y = refl
 
-      pub nobody-leaves : (es : List Edit) → allb (mayb (m .number) (target m)) es ≡ true → (movers (leavesb p) es ≡ []) × (counted es ≡ [])
+      pub nobody-leaves : (es : List Edit) → allb (mayb (m .request .number) (target m)) es ≡ true → (movers (leavesb p) es ≡ []) × (counted es ≡ [])
       unfolding mayb
-      nobody-leaves = none-move (leavesb p) (mayb (m .number) (target m)) stays (λ u y. never y untimed)
+      nobody-leaves = none-move (leavesb p) (mayb (m .request .number) (target m)) stays (λ u y. never y untimed)

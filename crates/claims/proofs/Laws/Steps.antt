@@ -16,15 +16,15 @@ use Rattle.kernel.specs.Sound.{Sound}
 use Rattle.kernel.specs.Edits.{statusOf, Effect, carriedOut}
 use Rattle.kernel.specs.Roles.{limitOf}
 use Rattle.kernel.specs.Uses.{Role}
-use Rattle.claims.specs.Lists.{Request, answer, next}
+use Rattle.claims.specs.Lists.{Made, answer, next}
 
 -- its first argument, past the last number of an object or thread the one that stands for none
-abbrev pub target : Request → ℕ
-target m = min (m .a) (limitOf (m .number))
+abbrev pub target : Made → ℕ
+target m = min (m .request .a) (limitOf (m .request .number))
 
-module _ (k : Kernel) (S : Sound k) (m : Request) where
+module _ (k : Kernel) (S : Sound k) (m : Made) where
   abbrev stepped : Outcome
-  stepped = General.step k (m .number) (m .caller) (m .a) (m .b) (m .c) (m .d) (m .messages)
+  stepped = General.step k (m .request) (m .messages)
 
   -- on sound tables the general call is the step
   answer-is : answer k m ≡ answerOf stepped
@@ -33,14 +33,14 @@ module _ (k : Kernel) (S : Sound k) (m : Request) where
 
   pub next-sound : Sound (next k m)
   unfolding next answerOf
-  next-sound = subst (λ (x : Answer). Sound (x .kernel)) (sym answer-is) (claims .stepSound k S (m .number) (m .caller) (m .a) (m .b) (m .c) (m .d) (m .messages))
+  next-sound = subst (λ (x : Answer). Sound (x .kernel)) (sym answer-is) (claims .stepSound k S (m .request) (m .messages))
 
   -- what holds of its status and tables where it is refused, and where it is carried out
   pub by-step : (P : ℕ → Kernel → Type 0) → ((s : ℕ) → eqb s 0 ≡ false → P s k)
-      → ((e : Effect) → Proper k (m .number) (target m) e → Role k (m .number) (target m) (m .b) (m .c) (m .messages) e → P (statusOf (e .success)) (carriedOut k e .kernel)) → P (answer k m .status) (next k m)
+      → ((e : Effect) → Proper k (m .request .number) (target m) e → Role k (m .request .number) (target m) (m .request .b) (m .request .c) (m .messages) e → P (statusOf (e .success)) (carriedOut k e .kernel)) → P (answer k m .status) (next k m)
   unfolding next answerOf refused carriedOut
-  by-step P f g = subst (λ (y : Answer). P (y .status) (y .kernel)) (sym answer-is) (go stepped (step-does k (m .number) (m .caller) (m .a) (m .b) (m .c) (m .d) (m .messages) S))
+  by-step P f g = subst (λ (y : Answer). P (y .status) (y .kernel)) (sym answer-is) (go stepped (step-does k (m .request) (m .messages) S))
     where
-      go : (o : Outcome) → Step k (m .number) (target m) (m .b) (m .c) (m .messages) o → P (o .status) (o .kernel)
+      go : (o : Outcome) → Step k (m .request .number) (target m) (m .request .b) (m .request .c) (m .messages) o → P (o .status) (o .kernel)
       go o (refuses s z r) = subst (λ (y : Outcome). P (y .status) (y .kernel)) (sym r) (f s z)
       go o (carries e r E R) = subst (λ (y : Outcome). P (y .status) (y .kernel)) (sym r) (g e E R)

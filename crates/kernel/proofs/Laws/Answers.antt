@@ -11,7 +11,7 @@ use Rattle.lines.specs.Logic.{if_then_else_}
 use Rattle.lines.proofs.Laws.Logic.{by-test}
 use Rattle.objects.specs.declared.queue.Queue.{Queue}
 use Rattle.calls.specs.declared.held.Held.{Held}
-use Rattle.calls.specs.Refusals.{unless, firstOf}
+use Rattle.calls.specs.Chains.{unless, firstOf}
 use Rattle.kernel.specs.declared.Kernel.{Kernel}
 use Rattle.kernel.specs.Tables.{withHeld, withQueue}
 use Rattle.kernel.specs.Answers.{refused}

@@ -1,53 +1,66 @@
 -- Laws of answers by the arms of the code: of the general call, by what is found before the service, and of a service, refused or carried out.
-use mathlib.Core.Path.{_≡_, sym, ap, _∙_}
+use mathlib.Core.Path.{_≡_, sym, ap, _∙_, subst}
 use mathlib.Core.List.{List}
 use mathlib.Core.Bool.{Bool, true, false, not}
 use Prim.Native.Nat.{ℕ}
 use lib.ListN.{length}
 use borrow.Author.Tests.{not-true, not-false}
+use Rattle.lines.specs.Logic.{if_then_else_}
 use Rattle.scheduler.specs.declared.Scheduler.{Scheduler}
 use Rattle.scheduler.specs.Choice.{rescheduled}
 use Rattle.calls.specs.Calls.{decoded}
 use Rattle.calls.specs.Held.{noWords}
 use Rattle.calls.specs.Statuses as Statuses
+use Rattle.calls.specs.declared.call.Request.{Request}
 use Rattle.calls.specs.declared.call.Call.{Call}
 use Rattle.calls.specs.declared.call.Decoded.{Decoded}
 use Rattle.calls.specs.declared.call.Decoded.the-variants.{Known, Unknown}
 use Rattle.kernel.specs.declared.Kernel.{Kernel}
 use Rattle.kernel.specs.declared.Answer.{Answer}
 use Rattle.kernel.specs.Tables.{runnerOf, withScheduler}
-use Rattle.kernel.specs.Answers.{answerOf, refused, answered}
+use Rattle.kernel.specs.Answers.{answerOf, refused}
+use Rattle.kernel.specs.Loops.{answered}
 use Rattle.kernel.specs.Sound.{soundb}
 use Rattle.kernel.specs.Edits.{Edit, applied, movers, endsb, statusOf, Effect, carriedOut, guarded}
 use Rattle.kernel.specs.Effects.{does}
-use Rattle.kernel.specs.General.{service, nobodyRunsb, byCaller, byRecord, step, unsound, call}
+use Rattle.kernel.specs.Chains.{chainOf, nobodyRunsb, chained}
+use Rattle.kernel.specs.General.{effectOf, stepOf, step, unsound, call}
+use Rattle.kernel.proofs.Laws.Refusals.{Same, same-reason}
 use Rattle.kernel.proofs.Laws.Answers.{is-refused}
 
 -- ---- the general call
-module _ (k : Kernel) (number caller a b c d : ℕ) (ms : List ℕ) where
+module _ (k : Kernel) (q : Request) (ms : List ℕ) where
   -- unsound tables are refused
-  pub on-unsound : {s : Bool} → s ≡ soundb k → not s ≡ true → unsound k ≡ call k number caller a b c d ms
+  pub on-unsound : {s : Bool} → s ≡ soundb k → not s ≡ true → unsound k ≡ call k q ms
   unfolding call
   on-unsound {s} e f = rw (← e, not-true s f)
 
   -- on sound tables the answer is that of the step
-  pub on-sound : {s : Bool} → s ≡ soundb k → not s ≡ false → answerOf (step k number caller a b c d ms) ≡ call k number caller a b c d ms
+  pub on-sound : {s : Bool} → s ≡ soundb k → not s ≡ false → answerOf (step k q ms) ≡ call k q ms
   unfolding call
   on-sound {s} e f = rw (← e, not-false s f)
 
-  -- the step, by the record that is read: unknown; from a thread while nobody runs; or its service
-  module _ {r : Decoded} (e : r ≡ decoded number caller a b c d) where
-    pub on-unknown : r ≡ Unknown → refused k Statuses.unknownCall ≡ step k number caller a b c d ms
-    unfolding step byRecord
+  -- the step, by what the request is for: nothing known; or a call, refused or carried out as the code's chain says
+  module _ {r : Decoded} (e : r ≡ decoded q) where
+    pub on-unknown : r ≡ Unknown → refused k Statuses.unknownCall ≡ step k q ms
+    unfolding step stepOf
     on-unknown u = rw (← e, u)
 
-    pub on-nobody : {x : Call} → r ≡ Known x → nobodyRunsb caller (runnerOf k) ≡ true → refused k Statuses.nobodyRuns ≡ step k number caller a b c d ms
-    unfolding step byRecord byCaller
-    on-nobody u n = rw (← e, u, n)
+    pub on-known : {x : Call} → r ≡ Known x → guarded k (chained k (q .caller) x ms) (effectOf k x ms) ≡ step k q ms
+    unfolding step stepOf
+    on-known {x} u = known (decoded q) (sym (sym e ∙ u)) (same-reason k q ms)
+      where
+        known : (y : Decoded) → Known x ≡ y → Same k (q .caller) (q .a) (q .b) (q .c) (q .d) ms (q .number) y → guarded k (chained k (q .caller) x ms) (effectOf k x ms) ≡ stepOf k q y ms
+        known y h = subst (λ (z : Decoded). Same k (q .caller) (q .a) (q .b) (q .c) (q .d) ms (q .number) z → guarded k (chained k (q .caller) x ms) (effectOf k x ms) ≡ stepOf k q z ms) h
+            (λ w. ap (λ (i : ℕ). guarded k i (effectOf k x ms)) (sym w))
 
-    pub on-known : {x y : Call} → r ≡ Known x → nobodyRunsb caller (runnerOf k) ≡ false → x ≡ y → service k caller y ms ≡ step k number caller a b c d ms
-    unfolding step byRecord byCaller
-    on-known u n v = rw (← e, u, n, v)
+-- a caller is there: a step's outcome is that of the call's own chain
+pub on-served : (k : Kernel) (caller : ℕ) (ms : List ℕ) {x y : Call} → nobodyRunsb caller (runnerOf k) ≡ false → x ≡ y
+    → guarded k (chainOf k caller y ms) (effectOf k y ms) ≡ guarded k (chained k caller x ms) (effectOf k x ms)
+unfolding chained
+on-served k caller ms {y = y} n e =
+    ap (λ (b : Bool). guarded k (if b then Statuses.nobodyRuns else chainOf k caller y ms) (effectOf k y ms)) (sym n)
+    ∙ ap (λ (z : Call). guarded k (if nobodyRunsb caller (runnerOf k) then Statuses.nobodyRuns else chainOf k caller z ms) (effectOf k z ms)) (sym e)
 
 -- ---- services
 -- a service that finds a reason is refused for it

@@ -38,7 +38,7 @@ step-does k S n a b c messages o (Steps.carries e is P role) =
 pub claims : Claims
 claims =
     record {
-      does = λ k S number caller a b c d messages. step-does k S number _ b c messages _ (Services.step-does k number caller a b c d messages S);
-      stepSound = λ k S number caller a b c d messages. step-sound k S number _ b c messages _ (Services.step-does k number caller a b c d messages S);
-      refusedSame = λ k number caller a b c d messages. Services.step-refused k number caller a b c d messages;
+      does = λ k S q messages. step-does k S (q .number) _ (q .b) (q .c) messages _ (Services.step-does k q messages S);
+      stepSound = λ k S q messages. step-sound k S (q .number) _ (q .b) (q .c) messages _ (Services.step-does k q messages S);
+      refusedSame = λ k q messages. Services.step-refused k q messages;
     }

@@ -17,7 +17,7 @@ use Rattle.scheduler.specs.Sound.{fitb}
 use Rattle.scheduler.proofs.Laws.States
 use Rattle.calls.specs.declared.held.Held.{Held}
 use Rattle.calls.specs.Held.{noWords}
-use Rattle.calls.specs.Refusals.{unless, firstOf}
+use Rattle.calls.specs.Chains.{unless, firstOf}
 use Rattle.waiting.specs.Fit.{waitsOnb, heldFitb}
 use Rattle.kernel.specs.declared.Kernel.{Kernel}
 use Rattle.kernel.specs.Tables.{threadOf, runnerOf, heldAt}

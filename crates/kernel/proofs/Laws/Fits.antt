@@ -171,7 +171,7 @@ KeepsFitMove k t (turns f g) = (heldFitb (f (threadOf k t)) (g (heldAt k t)) ≡
 -- an object gets a fit record, on which those who wait on it may wait
 pub record Stored (d : Kind) (k : Kernel) (n : ℕ) (x : Object d) : Type 0 where
   pub small : n < sizeOf d
-  pub fit : Kinds.objectFitb d x ≡ true
+  pub fit : Kinds.recordFitb d x ≡ true
   pub free : (t : ℕ) → t < 32 → waitsOnb (stateOn d) (threadOf k t) ≡ true → threadOf k t .object ≡ n → Kinds.waitb d (heldAt k t) x ≡ true
 
 abbrev pub KeepsFit : Kernel → Edit → Type 0

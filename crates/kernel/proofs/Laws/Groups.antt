@@ -15,7 +15,7 @@ use Rattle.lines.proofs.Laws.Logic.{by-test, by-eq}
 use Rattle.lines.proofs.Laws.Lines.{members-short}
 use Rattle.scheduler.specs.Orders.{lineAt}
 use Rattle.objects.specs.Groups.{metb, clearOf}
-use Rattle.matching.specs.Matching.{metAtb, wokenOf, clearsOf}
+use Rattle.matching.specs.Loops.{metAtb, wokenOf, clearsOf}
 use Rattle.calls.specs.declared.held.Held.{Held}
 use Rattle.calls.specs.Held.{noHeld}
 use Rattle.kernel.specs.declared.Kernel.{Kernel}

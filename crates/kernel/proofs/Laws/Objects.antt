@@ -20,7 +20,7 @@ use Rattle.calls.specs.declared.held.Held.{Held}
 use Rattle.waiting.specs.Fit.{waitsOnb, semaphoreWaitb, queueWaitb, groupWaitb, poolWaitb}
 use Rattle.kernel.specs.declared.Kernel.{Kernel}
 use Rattle.kernel.specs.Tables.{threadOf, heldAt, semaphoreAt, queueAt, groupAt, poolAt, withScheduler, withHeld, withSemaphore, withQueue, withGroup, withPool, withClock}
-use Rattle.kernel.specs.Kinds.{Kind, Object, sizeOf, stateOn, tableOf, objectAt, withObject, noObject, createdb, objectFitb, waitb}
+use Rattle.kernel.specs.Kinds.{Kind, Object, sizeOf, stateOn, tableOf, objectAt, withObject, noObject, createdb, recordFitb, waitb}
 use Rattle.kernel.specs.Kinds.Kind.{semaphore, queue, group, pool}
 use Rattle.kernel.specs.Sound.{Objects, MayWait, Fit}
 
@@ -61,7 +61,7 @@ pub same-objects : (d : Kind) (k x : Kernel) → tableOf d x ≡ tableOf d k →
 same-objects d k x e F =
     record {
       sized = ap (λ (l : List (Object d)). length l) e ∙ F .sized;
-      fit = λ n l. ap (objectFitb d) (same-object d k x e n) ∙ F .fit n l;
+      fit = λ n l. ap (recordFitb d) (same-object d k x e n) ∙ F .fit n l;
     }
 
 pub same-waits : (k x : Kernel) → ((d : Kind) → tableOf d x ≡ tableOf d k) → (th : Thread) (h : Held) → MayWait k th h → MayWait x th h
@@ -127,16 +127,16 @@ module _ (d : Kind) (k : Kernel) (n : ℕ) (x : Object d) where
 
   module _ (F : (c : Kind) → Objects c k) (small : n < sizeOf d) where
     -- a fit record leaves every table fit
-    stored-here : objectFitb d x ≡ true → Objects d (withObject d k n x)
+    stored-here : recordFitb d x ≡ true → Objects d (withObject d k n x)
     stored-here fit =
         record {
           sized = stored-sized (F d .sized);
           fit = λ m l. by-eq m n
-              (λ e. ap (λ (i : ℕ). objectFitb d (objectAt d (withObject d k n x) i)) e ∙ ap (objectFitb d) (stored-self (F d .sized) small) ∙ fit)
-              (λ o. ap (objectFitb d) (stored-other m o) ∙ F d .fit m l);
+              (λ e. ap (λ (i : ℕ). recordFitb d (objectAt d (withObject d k n x) i)) e ∙ ap (recordFitb d) (stored-self (F d .sized) small) ∙ fit)
+              (λ o. ap (recordFitb d) (stored-other m o) ∙ F d .fit m l);
         }
 
-    pub stored-objects : objectFitb d x ≡ true → (e : Kind) → Objects e (withObject d k n x)
+    pub stored-objects : recordFitb d x ≡ true → (e : Kind) → Objects e (withObject d k n x)
     stored-objects fit e =
         by-same e d
         (λ z. subst (λ (c : Kind). Objects c (withObject d k n x)) (sym z) (stored-here fit))
@@ -179,7 +179,7 @@ module _ (d : Kind) (k : Kernel) (F : Fit k) (n : ℕ) where
       (λ w. never made
       (ap (createdb d) (object-is d k n ∙ List·getD-eq-default (tableOf d k) (noObject d) (let o = ltb-false n (sizeOf d) w in let e = F .objects d .sized in omega (arith, o, e))) ∙ none-created d))
 
-  pub object-fit : createdb d (objectAt d k n) ≡ true → objectFitb d (objectAt d k n) ≡ true
+  pub object-fit : createdb d (objectAt d k n) ≡ true → recordFitb d (objectAt d k n) ≡ true
   object-fit made = F .objects d .fit n (object-small made)
 
   -- who waits there may

@@ -9,6 +9,7 @@ use Rattle.lines.specs.Logic.{if_then_else_}
 use Rattle.lines.proofs.Laws.Logic.{by-choice}
 use Rattle.calls.specs.Calls.{decoded, knownCall}
 use Rattle.calls.specs.Statuses as Statuses
+use Rattle.calls.specs.declared.call.Request.{Request}
 use Rattle.calls.specs.declared.call.Decoded.{Decoded}
 use Rattle.calls.specs.declared.call.Decoded.the-variants.{Known, Unknown}
 use Rattle.kernel.specs.declared.Kernel.{Kernel}
@@ -16,8 +17,12 @@ use Rattle.kernel.specs.Tables.{runnerOf}
 use Rattle.kernel.specs.Answers.{Outcome, refused}
 use Rattle.kernel.specs.Sound.{Sound}
 use Rattle.kernel.specs.Roles.{limitOf}
-use Rattle.kernel.specs.General.{reasonOf, effectOf, service, byCaller, byRecord, step}
+use Rattle.kernel.specs.Edits.{guarded}
+use Rattle.kernel.specs.Refusals.{reasonOf}
+use Rattle.kernel.specs.Chains.{chainOf, nobodyRunsb, chained}
+use Rattle.kernel.specs.General.{effectOf, stepOf, step}
 use Rattle.kernel.specs.Claims.{doneb, Unchanged}
+use Rattle.kernel.proofs.Laws.Refusals.{Same, same-reason}
 use Rattle.kernel.proofs.Laws.Does
 use Rattle.kernel.proofs.Laws.Calls.Threads
 use Rattle.kernel.proofs.Laws.Calls.Clock
@@ -29,7 +34,7 @@ use Rattle.kernel.proofs.Laws.Calls.Pools
 module _ (k : Kernel) (caller a b c d : ℕ) (messages : List ℕ) where
   -- a known call of number n does what its theorem says
   abbrev By : ℕ → Decoded → Type 0
-  By n (Known call) = Does.Does k caller n (min a (limitOf n)) b c messages (reasonOf k caller call messages) (effectOf k call messages)
+  By n (Known call) = Does.Does k caller n (min a (limitOf n)) b c messages (chainOf k caller call messages) (effectOf k call messages)
   By n Unknown = Unit {0}
 
   -- the call of number m, or another
@@ -38,7 +43,7 @@ module _ (k : Kernel) (caller a b c d : ℕ) (messages : List ℕ) where
 
   -- the calls one by one: the only place in these laws that goes through all of them
   known-does : (n : ℕ) → By n (knownCall n a b c d)
-  unfolding knownCall reasonOf effectOf limitOf
+  unfolding knownCall chainOf effectOf limitOf
   known-does n =
       or-else n 1 _ _ (Threads.create-does k b c messages caller (min a 32) b c d) (
       or-else n 2 _ _ (Threads.delete-does k b c messages caller (min a 32)) (
@@ -81,37 +86,40 @@ module _ (k : Kernel) (caller a b c d : ℕ) (messages : List ℕ) where
       or-else n 39 _ _ (Threads.words-does k b c messages caller (min a 32)) (
       tt)))))))))))))))))))))))))))))))))))))))
 
-  decoded-does : (n : ℕ) → By n (decoded n caller a b c d)
-  unfolding decoded
+  decoded-does : (n : ℕ) → By n (if ltb 2 caller then Unknown else knownCall n a b c d)
   decoded-does n = by-choice (By n) (ltb 2 caller) Unknown (knownCall n a b c d) (λ e. tt) (λ e. known-does n)
 
 -- who is not refused for want of a runner has one, where a thread calls
-runner-there : (k : Kernel) (caller : ℕ) → (eqb caller 2 && not (ltb (runnerOf k) 32)) ≡ false → eqb caller 2 ≡ true → runnerOf k < 32
+runner-there : (k : Kernel) (caller : ℕ) → nobodyRunsb caller (runnerOf k) ≡ false → eqb caller 2 ≡ true → runnerOf k < 32
 runner-there k caller e c = ltb-true (runnerOf k) 32 (not-false (ltb (runnerOf k) 32) (sym (ap (λ (b : Bool). b && not (ltb (runnerOf k) 32)) c) ∙ e))
 
--- ---- any call
-module _ (k : Kernel) (n caller a b c d : ℕ) (messages : List ℕ) where
-  record-does : Sound k → (x : Decoded) → By k caller a b c d messages n x → Does.Step k n (min a (limitOf n)) b c messages (byRecord k caller x messages)
-  unfolding byRecord byCaller service
-  record-does S (Known call) D =
-      by-choice (Does.Step k n (min a (limitOf n)) b c messages) (eqb caller 2 && not (ltb (runnerOf k) 32)) (refused k Statuses.nobodyRuns) (service k caller call messages)
+-- ---- any request
+module _ (k : Kernel) (q : Request) (messages : List ℕ) where
+  -- what a step does is what the effect that the table lets pass does
+  abbrev Stepped : Outcome → Type 0
+  Stepped = Does.Step k (q .number) (min (q .a) (limitOf (q .number))) (q .b) (q .c) messages
+
+  request-does : Sound k → (x : Decoded) → Same k (q .caller) (q .a) (q .b) (q .c) (q .d) messages (q .number) x
+      → By k (q .caller) (q .a) (q .b) (q .c) (q .d) messages (q .number) x → Stepped (stepOf k q x messages)
+  unfolding stepOf chained guarded
+  request-does S (Known call) e D =
+      subst (λ (r : ℕ). Stepped (guarded k r (effectOf k call messages))) (sym e)
+      (by-choice (λ (r : ℕ). Stepped (guarded k r (effectOf k call messages))) (nobodyRunsb (q .caller) (runnerOf k)) Statuses.nobodyRuns (chainOf k (q .caller) call messages)
       (λ e. Does.refuses Statuses.nobodyRuns refl refl)
-      (λ e. Does.step-of k S caller n (min a (limitOf n)) b c messages (reasonOf k caller call messages) (effectOf k call messages) (runner-there k caller e) D)
-  record-does S Unknown D = Does.refuses Statuses.unknownCall refl refl
+      (λ e. Does.step-of k S (q .caller) (q .number) (min (q .a) (limitOf (q .number))) (q .b) (q .c) messages (chainOf k (q .caller) call messages) (effectOf k call messages) (runner-there k (q .caller) e) D))
+  request-does S Unknown e D = Does.refuses Statuses.unknownCall refl refl
 
   -- on sound tables a call is refused, or carries out a proper effect
-  pub step-does : Sound k → Does.Step k n (min a (limitOf n)) b c messages (step k n caller a b c d messages)
-  unfolding step
-  step-does S = record-does S (decoded n caller a b c d) (decoded-does k caller a b c d messages n)
+  pub step-does : Sound k → Stepped (step k q messages)
+  unfolding step decoded
+  step-does S = request-does S (decoded q) (same-reason k q messages) (decoded-does k (q .caller) (q .a) (q .b) (q .c) (q .d) messages (q .number))
 
-  record-refused : (x : Decoded) → doneb (byRecord k caller x messages .status) ≡ false → Unchanged k (byRecord k caller x messages)
-  unfolding byRecord byCaller service refused
-  record-refused (Known call) =
-      by-choice (λ (o : Outcome). doneb (o .status) ≡ false → Unchanged k o) (eqb caller 2 && not (ltb (runnerOf k) 32)) (refused k Statuses.nobodyRuns) (service k caller call messages)
-      (λ e u. record { kernel = refl; words = refl; ended = refl }) (λ e. Does.guarded-refused k (reasonOf k caller call messages) (effectOf k call messages))
-  record-refused Unknown = λ u. record { kernel = refl; words = refl; ended = refl }
+  request-refused : (x : Decoded) → doneb (stepOf k q x messages .status) ≡ false → Unchanged k (stepOf k q x messages)
+  unfolding stepOf refused
+  request-refused (Known call) = Does.guarded-refused k (reasonOf k q messages) (effectOf k call messages)
+  request-refused Unknown = λ u. record { kernel = refl; words = refl; ended = refl }
 
   -- on any tables a refused call changes nothing
-  pub step-refused : doneb (step k n caller a b c d messages .status) ≡ false → Unchanged k (step k n caller a b c d messages)
+  pub step-refused : doneb (step k q messages .status) ≡ false → Unchanged k (step k q messages)
   unfolding step
-  step-refused = record-refused (decoded n caller a b c d)
+  step-refused = request-refused (decoded q)

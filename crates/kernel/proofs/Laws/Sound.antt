@@ -6,11 +6,11 @@ use native.Mathlib.Omega.{arith}
 use lib.ListN.{length, List·getD-eq-default}
 use borrow.Author.Tests.{eqb-true}
 use Rattle.lines.specs.Logic.{oneIf, implies, allBelow}
-use Rattle.lines.specs.Lists.{filter, count, below, first, firstWith, leastOf, firstOfKey, bestOf}
+use Rattle.lines.specs.Lists.{filter, count, below, first, firstWith, leastb, bestOf}
 use Rattle.lines.specs.Lines.{members, pad, lineOf, cleanb}
 use Rattle.lines.proofs.Laws.Logic.{by-test, never, and-left, and-right, and-in, implies-out, implies-in, all-at, all-in, all-more}
 use Rattle.scheduler.specs.declared.thread.Thread.{Thread}
-use Rattle.scheduler.specs.Threads.{uncreated, noThread, readyb, waitsb, sleepsb, pausedb, standsb}
+use Rattle.scheduler.specs.Threads.{uncreated, readyb, waitsb, sleepsb, pausedb, standsb}
 use Rattle.scheduler.specs.Orders as Orders
 use Rattle.scheduler.specs.Choice.{bestAmong, bestReady}
 use Rattle.scheduler.specs.Sound as Scheduling
@@ -21,12 +21,12 @@ use Rattle.objects.specs.Queues.{noQueue, queueZerob, queueFitb}
 use Rattle.objects.specs.Groups.{noGroup}
 use Rattle.blocks.specs.Pools.{noPool, poolZerob, poolFitb}
 use Rattle.calls.specs.declared.held.Held.{Held}
-use Rattle.calls.specs.Held.{holding}
+use Rattle.calls.specs.Held.{holding, heldWords, messageOf}
 use Rattle.waiting.proofs.Laws.Fit.{waits-nowhere}
 use Rattle.waiting.specs.Fit.{blankFrom, waitsOnb, sendsb, statusFitb, wordsFitb, senderFitb, requestFitb, unheldFitb, heldFitb, semaphoresFitb, queuesFitb, groupsFitb, poolsFitb}
 use Rattle.kernel.specs.declared.Kernel.{Kernel}
 use Rattle.kernel.specs.Tables.{started, threadOf, heldAt, semaphoreAt, queueAt, groupAt, poolAt}
-use Rattle.kernel.specs.Kinds.{Kind, Object, sizeOf, stateOn, tableOf, objectAt, noObject, objectFitb, waitb}
+use Rattle.kernel.specs.Kinds.{Kind, Object, sizeOf, stateOn, tableOf, objectAt, noObject, recordFitb, waitb}
 use Rattle.kernel.specs.Kinds.Kind.{semaphore, queue, group, pool}
 use Rattle.kernel.specs.Sound.{waitFitb, soundb, MayWait, Sound}
 use Rattle.kernel.proofs.Laws.Objects
@@ -115,7 +115,7 @@ module _ (k : Kernel) where
   threads-test = Scheduling.soundb (k .scheduler) && allBelow 32 (λ t. heldFitb (threadOf k t) (heldAt k t))
 
   abbrev fit-test : Kind → Bool
-  fit-test d = allBelow (sizeOf d) (λ n. objectFitb d (objectAt d k n))
+  fit-test d = allBelow (sizeOf d) (λ n. recordFitb d (objectAt d k n))
 
   pub tested : length (k .scheduler .threads) ≡ 32 → length (k .held) ≡ 32 → ((d : Kind) → length (tableOf d k) ≡ sizeOf d) → soundb k ≡ true → Sound k
   unfolding soundb semaphoresFitb queuesFitb groupsFitb poolsFitb semaphoreAt queueAt groupAt poolAt
@@ -127,7 +127,7 @@ module _ (k : Kernel) where
       let w = and-left to-waits _ s in
       let h = and-left threads-test _ w in
       let t = Testing.tested (k .scheduler) threads (and-left _ _ h) in
-      let fit : (d : Kind) (n : ℕ) → n < sizeOf d → objectFitb d (objectAt d k n) ≡ true = by-kind (λ d. (n : ℕ) → n < sizeOf d → objectFitb d (objectAt d k n) ≡ true)
+      let fit : (d : Kind) (n : ℕ) → n < sizeOf d → recordFitb d (objectAt d k n) ≡ true = by-kind (λ d. (n : ℕ) → n < sizeOf d → recordFitb d (objectAt d k n) ≡ true)
       (all-at 16 _ (and-right to-waits _ s)) (all-at 8 _ (and-right (to-waits && fit-test semaphore) _ q))
       (all-at 8 _ (and-right (to-waits && fit-test semaphore && fit-test queue) _ g)) (all-at 4 _ (and-right (to-waits && fit-test semaphore && fit-test queue && fit-test group) _ e)) in
       record {
@@ -145,15 +145,15 @@ module _ (k : Kernel) where
   unfolding soundb semaphoresFitb queuesFitb groupsFitb poolsFitb semaphoreAt queueAt groupAt poolAt
   passes S =
       let F = S .fit in
-      let all : (d : Kind) → allBelow (sizeOf d) (λ n. objectFitb d (objectAt d k n)) ≡ true = λ d. all-in (sizeOf d) _ (F .objects d .fit) in
+      let all : (d : Kind) → allBelow (sizeOf d) (λ n. recordFitb d (objectAt d k n)) ≡ true = λ d. all-in (sizeOf d) _ (F .objects d .fit) in
       and-in _ _ (and-in _ _ (and-in _ _ (and-in _ _ (and-in _ _ (and-in _ _
       (Testing.passes (k .scheduler) (record { steady = F .steady; runs = S .runs })) (all-in 32 _ (F .held))) (all-in 32 _ (λ t l. asks k t (F .waits t l)))) (all semaphore)) (all queue)) (all group)) (all pool)
 
 -- ---- nothing created
 started-passes : soundb started ≡ true
-unfolding started Orders.started uncreated noThread readyb waitsb sleepsb pausedb standsb Orders.threadAt members pad lineOf cleanb filter count below first firstWith leastOf firstOfKey bestOf bestAmong bestReady oneIf implies allBelow Scheduling.zerob Scheduling.fitb Scheduling.countedb Scheduling.steadyb Scheduling.runsb Scheduling.soundb noSemaphore noQueue noGroup noPool zeroFrom queueZerob queueFitb poolZerob poolFitb holding heldAt semaphoreAt queueAt groupAt poolAt blankFrom waitsOnb sendsb statusFitb wordsFitb senderFitb requestFitb unheldFitb heldFitb waitFitb semaphoresFitb queuesFitb groupsFitb poolsFitb soundb
+unfolding started Orders.idle uncreated readyb waitsb sleepsb pausedb standsb Orders.threadAt members pad lineOf cleanb filter count below first firstWith leastb bestOf bestAmong bestReady oneIf implies allBelow Scheduling.zerob Scheduling.fitb Scheduling.countedb Scheduling.steadyb Scheduling.runsb Scheduling.soundb noSemaphore noQueue noGroup noPool zeroFrom queueZerob queueFitb poolZerob poolFitb holding heldAt semaphoreAt queueAt groupAt poolAt blankFrom waitsOnb sendsb statusFitb wordsFitb senderFitb requestFitb unheldFitb heldFitb waitFitb semaphoresFitb queuesFitb groupsFitb poolsFitb soundb heldWords messageOf
 started-passes = refl
 
 pub started-sound : Sound started
-unfolding started Orders.started
+unfolding started Orders.idle
 started-sound = tested started refl refl (by-kind (λ d. length (tableOf d started) ≡ sizeOf d) refl refl refl refl) started-passes

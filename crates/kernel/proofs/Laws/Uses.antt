@@ -16,14 +16,14 @@ use Rattle.scheduler.proofs.Laws.Orders
 use Rattle.scheduler.proofs.Laws.States
 use Rattle.scheduler.proofs.Laws.Fairness.{first-placed}
 use Rattle.calls.specs.declared.held.Held.{Held}
-use Rattle.calls.specs.Held.{noWords, waiting}
+use Rattle.calls.specs.Held.{noWords, heldWaiting}
 use Rattle.calls.specs.Statuses as Statuses
-use Rattle.calls.specs.Refusals.{unless, firstOf}
+use Rattle.calls.specs.Chains.{unless, firstOf}
 use Rattle.waiting.specs.Fit.{waitsOnb, semaphoreWaitb, poolWaitb}
 use Rattle.waiting.proofs.Laws.Held
 use Rattle.kernel.specs.declared.Kernel.{Kernel}
 use Rattle.kernel.specs.Tables.{threadOf, runnerOf, heldAt}
-use Rattle.kernel.specs.Kinds.{Kind, Object, sizeOf, stateOn, placeOf, objectAt, noObject, createdb, objectFitb, waitb}
+use Rattle.kernel.specs.Kinds.{Kind, Object, sizeOf, stateOn, placeOf, objectAt, noObject, createdb, recordFitb, waitb}
 use Rattle.kernel.specs.Kinds.Kind.{semaphore, queue, group, pool}
 use Rattle.kernel.specs.Sound.{Fit, Sound}
 use Rattle.kernel.specs.Edits.{Cause, counted, Effect}
@@ -33,7 +33,7 @@ use Rattle.kernel.specs.Edits.Edit.{ranks, stores}
 use Rattle.kernel.specs.Edits.Success.{done, waits}
 use Rattle.kernel.specs.Roles.{mayMoveb, mayb}
 use Rattle.kernel.specs.Effects.{storeEffect, closeEffect, removeEffect, rankEffect, waitedb, serveEffect, giveEffect, amountOf, oneLess, takeEffect}
-use Rattle.kernel.specs.Uses.{Taker, countedb, newOf, oneGiven, mayGiveb, givenWords, Creates, Takes, Gives, Role}
+use Rattle.kernel.specs.Uses.{Taker, accountedb, newOf, oneGiven, mayGiveb, givenWords, Creates, Takes, Gives, Role}
 use Rattle.kernel.proofs.Laws.Answers.{second-none, unless-none}
 use Rattle.kernel.proofs.Laws.Objects
 use Rattle.kernel.proofs.Laws.Fits
@@ -93,10 +93,10 @@ module _ (d : Kind) (k : Kernel) (F : Fit k) (i : ℕ) where
   serve-proper n a words q m = Effects.proper-end k F n a first (served d i) words (first-waits q) m
 
   -- a record on which nobody waits, and the record of a new object
-  pub unwaited : (x : Object d) → i < sizeOf d → objectFitb d x ≡ true → waitedb k d i ≡ false → Fits.Stored d k i x
+  pub unwaited : (x : Object d) → i < sizeOf d → recordFitb d x ≡ true → waitedb k d i ≡ false → Fits.Stored d k i x
   unwaited x small fit q = record { small = small; fit = fit; free = λ t l. nobody-waits q t }
 
-  pub new-stored : (x : Object d) → (ltb i (sizeOf d) && not (createdb d (objectAt d k i))) ≡ true → objectFitb d x ≡ true → Fits.Stored d k i x
+  pub new-stored : (x : Object d) → (ltb i (sizeOf d) && not (createdb d (objectAt d k i))) ≡ true → recordFitb d x ≡ true → Fits.Stored d k i x
   new-stored x new fit =
       record {
         small = ltb-true i (sizeOf d) (and-left (ltb i (sizeOf d)) _ new);
@@ -105,7 +105,7 @@ module _ (d : Kind) (k : Kernel) (F : Fit k) (i : ℕ) where
       }
 
   -- all waits on it end, and it gets another record
-  pub close-proper : (n a : ℕ) (c : Cause) (x : Object d) → ((th : Thread) → placedb (placeOf d i) th ≡ true → Fits.Was (ends c noWords) th) → i < sizeOf d → objectFitb d x ≡ true
+  pub close-proper : (n a : ℕ) (c : Cause) (x : Object d) → ((th : Thread) → placedb (placeOf d i) th ≡ true → Fits.Was (ends c noWords) th) → i < sizeOf d → recordFitb d x ≡ true
       → ((t : ℕ) → mayMoveb n a t (ends c noWords) ≡ true) → mayb n a (stores d i x) ≡ true → Does.Proper k n a (closeEffect k c d i x)
   unfolding closeEffect
   close-proper n a c x was small fit m s =
@@ -121,7 +121,7 @@ module _ (d : Kind) (k : Kernel) (F : Fit k) (i : ℕ) where
       m s
 
   -- something is given: the first in line is served, or it is stored
-  pub give-proper : (number a : ℕ) (words : List ℕ) (x : Object d) → i < sizeOf d → objectFitb d x ≡ true → mayMoveb number a first (ends (served d i) words) ≡ true → mayb number a (stores d i x) ≡ true
+  pub give-proper : (number a : ℕ) (words : List ℕ) (x : Object d) → i < sizeOf d → recordFitb d x ≡ true → mayMoveb number a first (ends (served d i) words) ≡ true → mayb number a (stores d i x) ≡ true
       → Does.Proper k number a (giveEffect k d i words x)
   unfolding giveEffect storeEffect
   give-proper number a words x small fit m s =
@@ -132,7 +132,7 @@ module _ (d : Kind) (k : Kernel) (F : Fit k) (i : ℕ) where
 -- ---- calls that are alike for every kind: create, delete, prioritise
 module _ (k : Kernel) (b c : ℕ) (messages : List ℕ) (caller number n : ℕ) (d : Kind) where
   -- a new object has a fit record, and its number is free
-  pub create-does : (status rest : ℕ) → 0 < status → (rest ≡ 0 → objectFitb d (newOf d b c) ≡ true) → mayb number n (stores d n (newOf d b c)) ≡ true → (Creates d k n b c (storeEffect d n (newOf d b c)) → Role k number n b c messages (storeEffect d n (newOf d b c)))
+  pub create-does : (status rest : ℕ) → 0 < status → (rest ≡ 0 → recordFitb d (newOf d b c) ≡ true) → mayb number n (stores d n (newOf d b c)) ≡ true → (Creates d k n b c (storeEffect d n (newOf d b c)) → Role k number n b c messages (storeEffect d n (newOf d b c)))
       → Does.Does k caller number n b c messages (firstOf (unless (ltb n (sizeOf d) && not (createdb d (objectAt d k n))) status) rest) (storeEffect d n (newOf d b c))
   unfolding storeEffect
   create-does status rest pos fit m role =
@@ -143,7 +143,7 @@ module _ (k : Kernel) (b c : ℕ) (messages : List ℕ) (caller number n : ℕ) 
       }
 
   -- the waiters get 0x01 in line order, the record is zero
-  pub delete-does : (status rest : ℕ) → 0 < status → objectFitb d (noObject d) ≡ true → ((t : ℕ) → mayMoveb number n t (ends (deleted d n) noWords) ≡ true) → mayb number n (stores d n (noObject d)) ≡ true → Role k number n b c messages (removeEffect k d n)
+  pub delete-does : (status rest : ℕ) → 0 < status → recordFitb d (noObject d) ≡ true → ((t : ℕ) → mayMoveb number n t (ends (deleted d n) noWords) ≡ true) → mayb number n (stores d n (noObject d)) ≡ true → Role k number n b c messages (removeEffect k d n)
       → Does.Does k caller number n b c messages (firstOf (unless (createdb d (objectAt d k n)) status) rest) (removeEffect k d n)
   delete-does status rest pos fit m s role =
       Does.plain role (λ S runs z. close-proper d k (S .fit) n number n (deleted d n) (noObject d) (λ th p. p) (Objects.object-small d k (S .fit) n (Effects.is-true _ status rest pos z)) fit m s)
@@ -153,26 +153,26 @@ module _ (k : Kernel) (b c : ℕ) (messages : List ℕ) (caller number n : ℕ) 
   prioritize-does reason m role = Does.plain role (λ S runs z. Effects.proper-rank k (S .fit) number n d n m)
 
   -- ---- calls of objects with an account
-  module _ (counted : countedb d ≡ true) where
+  module _ (counted : accountedb d ≡ true) where
     abbrev x : Object d
     x = objectAt d k n
 
     -- whoever waits, waits where there is nothing to take
-    waits-none : (d : Kind) → countedb d ≡ true → (h : Held) (y : Object d) → waitb d h y ≡ (createdb d y && eqb (amountOf d y) 0)
+    waits-none : (d : Kind) → accountedb d ≡ true → (h : Held) (y : Object d) → waitb d h y ≡ (createdb d y && eqb (amountOf d y) 0)
     unfolding semaphoreWaitb poolWaitb
     waits-none semaphore e h y = refl
     waits-none queue e h y = never e refl
     waits-none group e h y = never e refl
     waits-none pool e h y = refl
 
-    other-state : (d : Kind) → countedb d ≡ true → (stateOn d ≡ 5 → ⊥) × (stateOn d ≡ 7 → ⊥)
+    other-state : (d : Kind) → accountedb d ≡ true → (stateOn d ≡ 5 → ⊥) × (stateOn d ≡ 7 → ⊥)
     other-state semaphore e = (λ z. omega (arith, z), λ z. omega (arith, z))
     other-state queue e = never e refl
     other-state group e = never e refl
     other-state pool e = (λ z. omega (arith, z), λ z. omega (arith, z))
 
     -- one is taken at once, or the caller waits
-    module _ (wait : ℕ) (words : List ℕ) (status none : ℕ) (pos : 0 < status) (some : 0 < none) (fit : Sound k → createdb d x ≡ true → objectFitb d (oneLess d x) ≡ true) (m : mayb number n (stores d n (oneLess d x)) ≡ true) where
+    module _ (wait : ℕ) (words : List ℕ) (status none : ℕ) (pos : 0 < status) (some : 0 < none) (fit : Sound k → createdb d x ≡ true → recordFitb d (oneLess d x) ≡ true) (m : mayb number n (stores d n (oneLess d x)) ≡ true) where
       abbrev reason : ℕ
       reason = firstOf (unless (createdb d x) status) (firstOf (unless (eqb wait 0 || eqb caller 2) Statuses.waitError) (unless (ltb 0 wait || ltb 0 (amountOf d x)) none))
 
@@ -194,8 +194,8 @@ module _ (k : Kernel) (b c : ℕ) (messages : List ℕ) (caller number n : ℕ) 
           }) m)
           (λ q. let l = ltb-false 0 (amountOf d x) q in
           let v = Effects.waiter-runs k caller wait runs may (ltb 0 (amountOf d x)) w q in
-          Effects.proper-wait k (S .fit) number n S (v .1) d false n wait waiting (v .0) (λ th i e. Held.held-waiting th i (omega (arith, e, low)) (λ y. other .0 (sym e ∙ y)) (λ y. other .1 (sym e ∙ y)))
-          (waits-none d counted waiting x ∙ and-in (createdb d x) _ made (eq-eqb (amountOf d x) 0 (omega (arith, l)))) refl)
+          Effects.proper-wait k (S .fit) number n S (v .1) d false n wait heldWaiting (v .0) (λ th i e. Held.held-waiting th i (omega (arith, e, low)) (λ y. other .0 (sym e ∙ y)) (λ y. other .1 (sym e ∙ y)))
+          (waits-none d counted heldWaiting x ∙ and-in (createdb d x) _ made (eq-eqb (amountOf d x) 0 (omega (arith, l)))) refl)
 
       takes : Sound k → Takes d k n (takeEffect k d n words wait)
       unfolding takeEffect
@@ -213,7 +213,7 @@ module _ (k : Kernel) (b c : ℕ) (messages : List ℕ) (caller number n : ℕ) 
     abbrev given : Effect
     given = giveEffect k d n (givenWords d k n b c messages) (oneGiven d x b)
 
-    pub give-does : (reason : ℕ) → (reason ≡ 0 → createdb d x ≡ true) → (Sound k → reason ≡ 0 → (objectFitb d (oneGiven d x b) ≡ true) × (mayGiveb d x b ≡ true)) → ((t : ℕ) → mayMoveb number n t (ends (served d n) (givenWords d k n b c messages)) ≡ true) → mayb number n (stores d n (oneGiven d x b)) ≡ true
+    pub give-does : (reason : ℕ) → (reason ≡ 0 → createdb d x ≡ true) → (Sound k → reason ≡ 0 → (recordFitb d (oneGiven d x b) ≡ true) × (mayGiveb d x b ≡ true)) → ((t : ℕ) → mayMoveb number n t (ends (served d n) (givenWords d k n b c messages)) ≡ true) → mayb number n (stores d n (oneGiven d x b)) ≡ true
         → (Gives d k n b c messages given → Role k number n b c messages given) → Does.Does k caller number n b c messages reason given
     unfolding giveEffect serveEffect storeEffect
     give-does reason made fit m s role =

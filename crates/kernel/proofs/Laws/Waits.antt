@@ -13,7 +13,7 @@ use Rattle.lines.proofs.Laws.Logic.{by-test, by-choice}
 use Rattle.lines.proofs.Laws.Lines.{take-one}
 use Rattle.scheduler.specs.declared.Scheduler.{Scheduler}
 use Rattle.scheduler.specs.declared.thread.Thread.{Thread}
-use Rattle.scheduler.specs.Threads.{noThread, awake}
+use Rattle.scheduler.specs.Threads.{uncreated, awake}
 use Rattle.scheduler.specs.Orders.{threadAt, withThread, withOrder, moved, joined, woken}
 use Rattle.scheduler.specs.Choice.{rescheduled}
 use Rattle.calls.specs.Held.{noWords, holding}
@@ -92,8 +92,8 @@ module _ (k : Kernel) (n : ℕ) (th : Thread) where
   unfolding tickOf applied edited recordBy frontb joined withHeld withScheduler moved withOrder withThread threadAt
   tick-other u h =
       by-choice (λ (es : List Edit). threadOf (applied k es) u ≡ threadOf k u) (lastTickb th) _ _
-      (λ e. getD-set-other (k .scheduler .threads) n u _ noThread h)
-      (λ e. by-choice (λ (es : List Edit). threadOf (applied k es) u ≡ threadOf k u) (timedb th) _ _ (λ f. getD-set-other (k .scheduler .threads) n u _ noThread h) (λ f. refl))
+      (λ e. getD-set-other (k .scheduler .threads) n u _ uncreated h)
+      (λ e. by-choice (λ (es : List Edit). threadOf (applied k es) u ≡ threadOf k u) (timedb th) _ _ (λ f. getD-set-other (k .scheduler .threads) n u _ uncreated h) (λ f. refl))
 
   -- whom it moves, in a way that counts: whose last tick it is
   pub tick-movers : (c : Move → Bool) → c (ends timedOut noWords) ≡ true → movers c (tickOf th n) ≡ onlyIf (lastTickb th) n

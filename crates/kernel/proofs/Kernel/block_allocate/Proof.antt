@@ -7,10 +7,11 @@ use lib.ListN.{length}
 use Rattle.scheduler.proofs.Laws.Threads.{length-mapped}
 use Rattle.blocks.specs.declared.pool.Pool.{Pool}
 use Rattle.blocks.specs.Pools.{nextBlock, withoutNext}
-use Rattle.calls.specs.Held.{waiting}
-use Rattle.calls.specs.Refusals.{allocateRefusal}
+use Rattle.calls.specs.Held.{heldWaiting}
+use Rattle.calls.specs.Chains.{allocateRefusal}
 use Rattle.kernel.specs.Tables.{poolAt, withScheduler, withHeld, withPool}
-use Rattle.kernel.specs.Answers.{answerOf, answered}
+use Rattle.kernel.specs.Answers.{answerOf}
+use Rattle.kernel.specs.Loops.{answered}
 use Rattle.kernel.specs.Edits.{recordBy, heldBy, frontb, edited, applied, gathered, endsb, statusOf, carriedOut, guarded}
 use Rattle.kernel.specs.Effects.{takeEffect}
 use Rattle.kernel.specs.Pools.{allocateEffect}
@@ -45,10 +46,10 @@ returns-2 c =
     ⊎-elim
     (λ w. rw (w .5, w .6, w .7, w .8, is-carried, ← t, w .0 .taken, w .4 .ensures, w .2 .ensures, w .1 .ensures ∙ ap nextBlock i, w .3 .ensures ∙ ap withoutNext i))
     (λ w. ⊎-elim
-    (λ v. rw (v .6, v .7, v .8, v .9, is-carried, ← t, v .0 .left, v .3 .ensures, v .5 .ensures))
+    (λ v. rw (v .7, v .8, v .9, v .10, is-carried, ← t, v .0 .left, v .4 .ensures, v .3 .ensures, v .6 .ensures))
     (λ v.
-    let o = held-out (a .t1) (a .t1 .scheduler .running .0) waiting l (v .4 .left) in
-    rw (v .5 ∙ sym o, v .6, v .7, v .8, is-carried, ← t, v .0 .left, v .3 .ensures))
+    let o = held-out (a .t1) (a .t1 .scheduler .running .0) heldWaiting l (v .5 .left) in
+    rw (v .6 ∙ sym o, v .7, v .8, v .9, is-carried, ← t, v .0 .left, v .4 .ensures, v .3 .ensures))
     w)
     (d .came) in
     c .carried .ensures ∙ m
@@ -60,6 +61,6 @@ block-allocate-spec =
     (λ c κs. search needs) (λ c κs. search needs) (λ c κs. search needs)
     (λ c. refused-by _ _ (c .refused .ensures) (reason (c .before .before)) (c .before .if1 .taken))
     (λ c κs. search needs) (λ c κs. search needs) (λ c. search needs) (λ c κs. search needs)
-    (λ c κs. search needs) (λ c κs. search needs) (λ c. search needs) (λ c κs. search needs)
+    (λ c κs. search needs) (λ c κs. search needs) (λ c. search needs) (λ c κs. search needs) (λ c κs. search needs)
     (λ c κs. search needs) (λ c. search needs) (λ c. search needs) (λ c κs. search needs)
     returns-2)

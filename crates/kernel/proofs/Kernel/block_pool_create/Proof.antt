@@ -3,9 +3,10 @@ use native.Mathlib.Omega.{arith}
 use borrow.Author.Needs.{needs}
 use Rattle.blocks.specs.Pools.{freshPool, blockSizesb}
 use Rattle.blocks.proofs.Laws.Pools.{block-half}
-use Rattle.calls.specs.Refusals.{poolCreateRefusal}
+use Rattle.calls.specs.Chains.{poolCreateRefusal}
 use Rattle.kernel.specs.Tables.{poolAt, withScheduler, withPool}
-use Rattle.kernel.specs.Answers.{answerOf, answered}
+use Rattle.kernel.specs.Answers.{answerOf}
+use Rattle.kernel.specs.Loops.{answered}
 use Rattle.kernel.specs.Edits.{edited, applied, gathered, statusOf, carriedOut}
 use Rattle.kernel.specs.Effects.{storeEffect}
 use Rattle.kernel.proofs.Laws.Answers.{is-carried, first-none, second-none, unless-none}

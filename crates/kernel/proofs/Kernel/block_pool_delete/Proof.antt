@@ -3,7 +3,7 @@ use borrow.Author.Needs.{needs}
 use Rattle.scheduler.specs.Orders.{lineAt}
 use Rattle.blocks.specs.Pools.{noPool}
 use Rattle.calls.specs.Held.{noWords}
-use Rattle.calls.specs.Refusals.{poolDeleteRefusal}
+use Rattle.calls.specs.Chains.{poolDeleteRefusal}
 use Rattle.kernel.specs.Tables.{poolAt, withPool}
 use Rattle.kernel.specs.Answers.{answerOf}
 use Rattle.kernel.specs.Kinds.{Kind, placeOf}
@@ -27,7 +27,7 @@ returns-2 c =
     let h = c .before .before .before .before .before .before in
     let a = h .before .before .before .before .args in
     let z = sym (reason (h .before)) ∙ h .if1 .left in
-    let m = c .before .before .before .line-at .ensures .1 ∙ ap (lineAt (a .self .scheduler)) (c .before .before .before .before .place .ensures) in
+    let m = c .before .before .before .line-at .ensures .1 ∙ ap (lineAt (a .self .scheduler)) (c .before .before .before .before .pool .ensures) in
     let line = lineAt (a .self .scheduler) (placeOf Kind.pool (a .n .0)) in
     let by = Cause.deleted Kind.pool (a .n .0) in
     rw is-carried (c .ended-each .ensures by (λ th h. refl) ∙ rw (m, c .before .pools-with .ensures, c .before .before .none .ensures) (ap answerOf (closed by noWords Kind.pool (a .self) (a .n .0) noPool line)))

@@ -1,8 +1,9 @@
 use mathlib.Core.Path.{_≡_, sym, _∙_}
 use borrow.Author.Needs.{needs}
-use Rattle.calls.specs.Refusals.{poolRefusal}
+use Rattle.calls.specs.Chains.{poolRefusal}
 use Rattle.kernel.specs.Tables.{poolAt, withScheduler}
-use Rattle.kernel.specs.Answers.{answerOf, answered}
+use Rattle.kernel.specs.Answers.{answerOf}
+use Rattle.kernel.specs.Loops.{answered}
 use Rattle.kernel.specs.Edits.{edited, applied, gathered, statusOf, carriedOut}
 use Rattle.kernel.specs.Effects.{rankEffect}
 use Rattle.kernel.proofs.Laws.Answers.{is-carried}
@@ -21,7 +22,7 @@ unfolding carriedOut applied gathered statusOf answerOf answered withScheduler e
 returns-2 c =
     let k = c .before .before .before .before in
     let z = sym (reason (k .before)) ∙ k .if1 .left in
-    rw is-carried (c .carried .ensures ∙ rw (c .before .prioritised .ensures, c .before .before .place .ensures))
+    rw is-carried (c .carried .ensures ∙ rw (c .before .prioritised .ensures, c .before .before .pool2 .ensures))
 
 pub block-pool-prioritize-spec : {M : Type 1} → statement M
 block-pool-prioritize-spec =

@@ -9,9 +9,10 @@ use Rattle.blocks.specs.declared.pool.Pool.{Pool}
 use Rattle.blocks.specs.Pools.{withFree}
 use Rattle.calls.specs.Held.{noWords}
 use Rattle.calls.specs.Statuses.{success}
-use Rattle.calls.specs.Refusals.{releaseRefusal}
+use Rattle.calls.specs.Chains.{releaseRefusal}
 use Rattle.kernel.specs.Tables.{poolAt, withScheduler, withHeld, withPool}
-use Rattle.kernel.specs.Answers.{answerOf, answered}
+use Rattle.kernel.specs.Answers.{answerOf}
+use Rattle.kernel.specs.Loops.{answered}
 use Rattle.kernel.specs.Edits.{statusBy, recordBy, heldBy, frontb, edited, applied, gathered, endsb, statusOf, carriedOut, guarded}
 use Rattle.kernel.specs.Effects.{storeEffect, serveEffect, giveEffect}
 use Rattle.kernel.specs.Pools.{releaseEffect}
@@ -34,7 +35,7 @@ returns-2 c =
     let i = k .before .before .pool-in .ensures in
     let z = sym (reason (k .before)) ∙ k .if1 .left in
     let first = c .before .before .before .first-at in
-    let f = first .ensures ∙ ap (firstAt (a .t1 .scheduler)) (c .before .before .before .before .place .ensures) in
+    let f = first .ensures ∙ ap (firstAt (a .t1 .scheduler)) (c .before .before .before .before .pool .ensures) in
     let d = c .before .if2 in
     let m : answered (d .self) (d .s) success noWords (d .ended) ≡ answerOf (guarded (a .t1) (releaseRefusal (poolAt (a .t1) (a .n .0)) (a .block)) (releaseEffect (a .t1) (a .n .0) (a .block))) =
     ⊎-elim

@@ -1,9 +1,8 @@
 use mathlib.Core.Path.{_≡_, ap, _∙_}
 use borrow.Author.Needs.{needs}
-use Rattle.calls.specs.declared.call.Call.{Call}
 use Rattle.kernel.specs.Answers.{answerOf}
-use Rattle.kernel.specs.General.{reasonOf, effectOf, service, step, unsound, call}
-use Rattle.kernel.proofs.Laws.Arms.{on-unsound, on-sound, on-unknown, on-nobody, on-known}
+use Rattle.kernel.specs.General.{step, unsound, call}
+use Rattle.kernel.proofs.Laws.Arms.{on-unsound, on-sound, on-unknown, on-known}
 use Rattle.kernel.proofs.Kernel.call.Statement.{statement}
 use Rattle.kernel.proofs.Kernel.call.Tie as tie
 
@@ -11,96 +10,25 @@ use Rattle.kernel.proofs.Kernel.call.Tie as tie
 module _ (k : tie.Else1) where
   sound :
       let x = k .before .before .before .args in
-      answerOf (step (x .self) (x .number) (x .caller) (x .a) (x .b) (x .c) (x .d) (x .messages .now))
-      ≡ call (x .self) (x .number) (x .caller) (x .a) (x .b) (x .c) (x .d) (x .messages .now)
-  sound = on-sound _ _ _ _ _ _ _ _ (k .before .is-sound .ensures) (k .if1 .left)
-
--- the call is known and its caller is in place: the answer is that of the service
-module _ (k : tie.Else2) where
-  abbrev read : tie.After-decoded
-  read = k .before .before .before .before .before
-
-  abbrev start : tie.Start
-  start = read .before .before .before .before .before .before
-
-  served :
-      {y : Call} → read .decoded .given .0 .0 ≡ y → let x = start .args in
-      answerOf (service (x .self) (x .caller) y (x .messages .now))
-      ≡ call (x .self) (x .number) (x .caller) (x .a) (x .b) (x .c) (x .d) (x .messages .now)
-  served e =
-      ap answerOf (on-known _ _ _ _ _ _ _ _ (read .before .before .decode .ensures) (read .decoded .given .1) (k .if2 .left) e)
-      ∙ sound (read .before .before .before)
+      answerOf (step (x .self) (x .request) (x .messages .now)) ≡ call (x .self) (x .request) (x .messages .now)
+  sound = on-sound _ _ _ (k .before .is-sound .ensures) (k .if1 .left)
 
 pub call-spec : {M : Type 1} → statement M
-unfolding service reasonOf effectOf unsound
+unfolding unsound
 call-spec =
     tie.close
     (tie.spec
     (λ c κs. search needs)
-    (λ c. on-unsound _ _ _ _ _ _ _ _ (c .before .is-sound .ensures) (c .if1 .taken))
+    (λ c. on-unsound _ _ _ (c .before .is-sound .ensures) (c .if1 .taken))
     (λ c κs. search needs)
     (λ c. search needs)
     (λ c. search needs)
     (λ c κs. search needs)
     (λ c.
-    let u = on-unknown _ _ _ _ _ _ _ _ (c .before .before .before .decode .ensures) (c .before .enum-told .given .1) in
+    let u = on-unknown _ _ _ (c .before .before .before .decode .ensures) (c .before .enum-told .given .1) in
     c .refused .ensures ∙ ap answerOf u ∙ sound (c .before .before .before .before))
     (λ c κs. search needs)
     (λ c.
-    let read = c .before .before .before .before .before .before in
-    let n = on-nobody _ _ _ _ _ _ _ _ (read .before .before .decode .ensures) (read .decoded .given .1) (c .before .if2 .taken) in
-    c .refused2 .ensures ∙ ap answerOf n ∙ sound (read .before .before .before))
-    -- of each variant: that it is the one, and what its service asks
-    (λ c. search needs) (λ c κs. search needs) (λ c. search needs) (λ c κs. search needs) (λ c. search needs) (λ c κs. search needs)
-    (λ c. search needs) (λ c κs. search needs) (λ c. search needs) (λ c κs. search needs) (λ c. search needs) (λ c κs. search needs)
-    (λ c. search needs) (λ c κs. search needs) (λ c. search needs) (λ c κs. search needs) (λ c. search needs) (λ c κs. search needs)
-    (λ c. search needs) (λ c κs. search needs) (λ c. search needs) (λ c κs. search needs) (λ c. search needs) (λ c κs. search needs)
-    (λ c. search needs) (λ c κs. search needs) (λ c. search needs) (λ c κs. search needs) (λ c. search needs) (λ c κs. search needs)
-    (λ c. search needs) (λ c κs. search needs) (λ c. search needs) (λ c κs. search needs) (λ c. search needs) (λ c κs. search needs)
-    (λ c. search needs) (λ c κs. search needs) (λ c. search needs) (λ c κs. search needs) (λ c. search needs) (λ c κs. search needs)
-    (λ c. search needs) (λ c κs. search needs) (λ c. search needs) (λ c κs. search needs) (λ c. search needs) (λ c κs. search needs)
-    (λ c. search needs) (λ c κs. search needs) (λ c. search needs) (λ c κs. search needs) (λ c. search needs) (λ c κs. search needs)
-    (λ c. search needs) (λ c κs. search needs) (λ c. search needs) (λ c κs. search needs) (λ c. search needs) (λ c κs. search needs)
-    (λ c. search needs) (λ c κs. search needs) (λ c. search needs) (λ c κs. search needs) (λ c. search needs) (λ c κs. search needs)
-    (λ c. search needs) (λ c κs. search needs) (λ c. search needs) (λ c κs. search needs) (λ c. search needs) (λ c κs. search needs)
-    (λ c. search needs) (λ c κs. search needs) (λ c. search needs) (λ c κs. search needs) (λ c. search needs) (λ c κs. search needs)
-    -- and its answer
-    (λ c. c .thread-create .ensures ∙ served (c .before .before .before .before) (c .before .before .call .given .1))
-    (λ c. c .thread-delete .ensures ∙ served (c .before .before .before .before) (c .before .before .call2 .given .1))
-    (λ c. c .thread-resume .ensures ∙ served (c .before .before .before .before) (c .before .before .call3 .given .1))
-    (λ c. c .thread-suspend .ensures ∙ served (c .before .before .before .before) (c .before .before .call4 .given .1))
-    (λ c. c .thread-terminate .ensures ∙ served (c .before .before .before .before) (c .before .before .call5 .given .1))
-    (λ c. c .thread-reset .ensures ∙ served (c .before .before .before .before) (c .before .before .call6 .given .1))
-    (λ c. c .thread-finish .ensures ∙ served (c .before .before .before) (c .before .enum-told2 .given .1))
-    (λ c. c .thread-relinquish .ensures ∙ served (c .before .before .before) (c .before .enum-told3 .given .1))
-    (λ c. c .thread-sleep .ensures ∙ served (c .before .before .before .before) (c .before .before .call7 .given .1))
-    (λ c. c .thread-wait-abort .ensures ∙ served (c .before .before .before .before) (c .before .before .call8 .given .1))
-    (λ c. c .thread-priority-change .ensures ∙ served (c .before .before .before .before) (c .before .before .call9 .given .1))
-    (λ c. c .thread-preemption-change .ensures ∙ served (c .before .before .before .before) (c .before .before .call10 .given .1))
-    (λ c. c .time-get .ensures ∙ served (c .before .before .before) (c .before .enum-told4 .given .1))
-    (λ c. c .time-set .ensures ∙ served (c .before .before .before .before) (c .before .before .call11 .given .1))
-    (λ c. c .tick .ensures ∙ served (c .before .before .before) (c .before .enum-told5 .given .1))
-    (λ c. c .semaphore-create .ensures ∙ served (c .before .before .before .before) (c .before .before .call12 .given .1))
-    (λ c. c .semaphore-delete .ensures ∙ served (c .before .before .before .before) (c .before .before .call13 .given .1))
-    (λ c. c .semaphore-get .ensures ∙ served (c .before .before .before .before) (c .before .before .call14 .given .1))
-    (λ c. c .semaphore-put .ensures ∙ served (c .before .before .before .before) (c .before .before .call15 .given .1))
-    (λ c. c .semaphore-ceiling-put .ensures ∙ served (c .before .before .before .before) (c .before .before .call16 .given .1))
-    (λ c. c .semaphore-prioritize .ensures ∙ served (c .before .before .before .before) (c .before .before .call17 .given .1))
-    (λ c. c .queue-create .ensures ∙ served (c .before .before .before .before) (c .before .before .call18 .given .1))
-    (λ c. c .queue-delete .ensures ∙ served (c .before .before .before .before) (c .before .before .call19 .given .1))
-    (λ c. c .queue-send .ensures ∙ served (c .before .before .before .before) (c .before .before .call20 .given .1))
-    (λ c. c .queue-send2 .ensures ∙ served (c .before .before .before .before) (c .before .before .call21 .given .1))
-    (λ c. c .queue-receive .ensures ∙ served (c .before .before .before .before) (c .before .before .call22 .given .1))
-    (λ c. c .queue-flush .ensures ∙ served (c .before .before .before .before) (c .before .before .call23 .given .1))
-    (λ c. c .queue-prioritize .ensures ∙ served (c .before .before .before .before) (c .before .before .call24 .given .1))
-    (λ c. c .event-flags-create .ensures ∙ served (c .before .before .before .before) (c .before .before .call25 .given .1))
-    (λ c. c .event-flags-delete .ensures ∙ served (c .before .before .before .before) (c .before .before .call26 .given .1))
-    (λ c. c .event-flags-set .ensures ∙ served (c .before .before .before .before) (c .before .before .call27 .given .1))
-    (λ c. c .event-flags-get .ensures ∙ served (c .before .before .before .before) (c .before .before .call28 .given .1))
-    (λ c. c .block-pool-create .ensures ∙ served (c .before .before .before .before) (c .before .before .call29 .given .1))
-    (λ c. c .block-pool-delete .ensures ∙ served (c .before .before .before .before) (c .before .before .call30 .given .1))
-    (λ c. c .block-allocate .ensures ∙ served (c .before .before .before .before) (c .before .before .call31 .given .1))
-    (λ c. c .block-release .ensures ∙ served (c .before .before .before .before) (c .before .before .call32 .given .1))
-    (λ c. c .block-pool-prioritize .ensures ∙ served (c .before .before .before .before) (c .before .before .call33 .given .1))
-    (λ c. c .thread-state-read .ensures ∙ served (c .before .before .before .before) (c .before .before .call34 .given .1))
-    (λ c. c .thread-words-read .ensures ∙ served (c .before .before .before .before) (c .before .before .call35 .given .1)))
+    let read = c .before .before in
+    let u = on-known _ _ _ (read .before .before .decode .ensures) (read .decoded .given .1) in
+    c .step .ensures ∙ ap answerOf u ∙ sound (read .before .before .before)))

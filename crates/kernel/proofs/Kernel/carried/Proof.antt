@@ -1,6 +1,6 @@
 use borrow.Author.Needs.{needs}
 use Rattle.kernel.specs.Tables.{withScheduler}
-use Rattle.kernel.specs.Answers.{answered}
+use Rattle.kernel.specs.Loops.{answered}
 use Rattle.kernel.proofs.Kernel.carried.Statement.{statement}
 use Rattle.kernel.proofs.Kernel.carried.Tie as tie
 

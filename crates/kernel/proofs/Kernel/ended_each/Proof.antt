@@ -60,7 +60,7 @@ module _ (k : tie.In-loop Inv-loop μ-loop) where
 loop-again : tie.Need-loop-again Inv-loop μ-loop
 unfolding withScheduler withHeld holding
 loop-again c =
-    let k = c .before .before in
+    let k = c .before .before .before in
     let l = at k .loop in
     let e = at k .before .before .of .ensures in
     let g = e ∙ sym (ap (λ (y : Held). holding (start k .args .status) (y .words)) e) in (
@@ -74,7 +74,7 @@ loop-again c =
 loop-again-2 : tie.Need-loop-again-2 Inv-loop μ-loop
 unfolding withScheduler withHeld
 loop-again-2 c =
-    let k = c .before .before in
+    let k = c .before .before .before in
     let l = at k .loop in
     let o = held-out (withScheduler (l .self) (woken (l .s) (x k))) (x k) (holding (start k .args .status) (words k)) (l .inv .3) (c .if1 .left) in
     (omega arith, omega arith, l .inv .2, l .inv .3, λ by same. rw (c .before .woken .ensures) (sym o ∙ step k by same))

@@ -3,7 +3,7 @@ use borrow.Author.Needs.{needs}
 use Rattle.scheduler.specs.Orders.{lineAt}
 use Rattle.objects.specs.Groups.{noGroup}
 use Rattle.calls.specs.Held.{noWords}
-use Rattle.calls.specs.Refusals.{groupDeleteRefusal}
+use Rattle.calls.specs.Chains.{groupDeleteRefusal}
 use Rattle.kernel.specs.Tables.{groupAt, withGroup}
 use Rattle.kernel.specs.Answers.{answerOf}
 use Rattle.kernel.specs.Kinds.{Kind, placeOf}
@@ -28,7 +28,7 @@ returns-2 c =
     let a = h .before .before .before .before .args in
     let z = sym (reason (h .before)) ∙ h .if1 .left in
     let line = lineAt (a .self .scheduler) (placeOf Kind.group (a .n .0)) in
-    let m = c .before .before .before .line-at .ensures .1 ∙ ap (lineAt (a .self .scheduler)) (c .before .before .before .before .place .ensures) in
+    let m = c .before .before .before .line-at .ensures .1 ∙ ap (lineAt (a .self .scheduler)) (c .before .before .before .before .group .ensures) in
     let by = Cause.deleted Kind.group (a .n .0) in
     rw is-carried (c .ended-each .ensures by (λ th h. refl) ∙ rw (m, c .before .groups-with .ensures, c .before .before .none .ensures) (ap answerOf (closed by noWords Kind.group (a .self) (a .n .0) noGroup line)))
 

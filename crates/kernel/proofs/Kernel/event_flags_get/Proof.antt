@@ -9,9 +9,10 @@ use borrow.Author.Tests.{leb-true}
 use Rattle.scheduler.proofs.Laws.Threads.{length-mapped}
 use Rattle.objects.specs.Groups.{metb}
 use Rattle.calls.specs.Held.{requesting}
-use Rattle.calls.specs.Refusals.{getRefusal}
+use Rattle.calls.specs.Chains.{getRefusal}
 use Rattle.kernel.specs.Tables.{groupAt, withScheduler, withHeld, withGroup}
-use Rattle.kernel.specs.Answers.{answerOf, answered}
+use Rattle.kernel.specs.Answers.{answerOf}
+use Rattle.kernel.specs.Loops.{answered}
 use Rattle.kernel.specs.Edits.{recordBy, heldBy, frontb, edited, applied, gathered, endsb, statusOf, carriedOut, guarded}
 use Rattle.kernel.specs.Groups.{flagsGetEffect}
 use Rattle.kernel.proofs.Laws.Answers.{is-carried, first-none, second-none, unless-none, held-out}
@@ -51,10 +52,10 @@ returns-2 c =
     ⊎-elim
     (λ w. rw (w .6, w .7, w .8, w .9, is-carried, ← t, w .0 .taken) (rw (w .5 .ensures, w .4 .ensures, w .3 .ensures, w .2 .ensures, w .1 .ensures, o, i)))
     (λ w. ⊎-elim
-    (λ v. rw (v .6, v .7, v .8, v .9, is-carried, ← t, v .0 .left, v .3 .ensures, v .5 .ensures, o))
+    (λ v. rw (v .7, v .8, v .9, v .10, is-carried, ← t, v .0 .left, v .4 .ensures, v .3 .ensures, v .6 .ensures, o))
     (λ v.
-    let o = held-out (a .t1) (a .t1 .scheduler .running .0) (requesting (a .request) (a .option)) l (v .4 .left) in
-    rw (v .5 ∙ sym o, v .6, v .7, v .8, is-carried, ← t, v .0 .left, v .3 .ensures))
+    let o = held-out (a .t1) (a .t1 .scheduler .running .0) (requesting (a .request) (a .option)) l (v .5 .left) in
+    rw (v .6 ∙ sym o, v .7, v .8, v .9, is-carried, ← t, v .0 .left, v .4 .ensures, v .3 .ensures))
     w)
     (d .came) in
     c .carried .ensures ∙ m
@@ -66,6 +67,6 @@ event-flags-get-spec =
     (λ c κs. search needs) (λ c κs. search needs) (λ c κs. search needs)
     (λ c. refused-by _ _ (c .refused .ensures) (reason (c .before .before)) (c .before .if1 .taken))
     (λ c κs. search needs) (λ c κs. search needs) (λ c κs. search needs) (λ c κs. search needs)
-    (λ c κs. search needs) (λ c κs. search needs) (λ c κs. search needs) (λ c. search needs)
+    (λ c κs. search needs) (λ c κs. search needs) (λ c κs. search needs) (λ c. search needs) (λ c κs. search needs)
     (λ c κs. search needs) (λ c κs. search needs) (λ c. search needs) (λ c. search needs) (λ c κs. search needs)
     returns-2)

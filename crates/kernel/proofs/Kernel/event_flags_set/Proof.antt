@@ -2,10 +2,11 @@ use mathlib.Core.Path.{_≡_, sym, ap, _∙_}
 use borrow.Author.Needs.{needs}
 use borrow.Author.Tests.{eq-eqb, ne-eqb}
 use Rattle.objects.specs.declared.group.Group.{Group}
-use Rattle.calls.specs.Refusals.{setRefusal}
+use Rattle.calls.specs.Chains.{setRefusal}
 use lib.Bits.{bitOr}
 use Rattle.kernel.specs.Tables.{groupAt, withScheduler, withGroup}
-use Rattle.kernel.specs.Answers.{answerOf, answered}
+use Rattle.kernel.specs.Answers.{answerOf}
+use Rattle.kernel.specs.Loops.{answered}
 use Rattle.kernel.specs.Edits.{edited, applied, gathered, statusOf, carriedOut}
 use Rattle.kernel.specs.Effects.{storeEffect}
 use Rattle.kernel.specs.Groups.{setOrEffect, setEffect}

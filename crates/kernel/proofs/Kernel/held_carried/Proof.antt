@@ -6,7 +6,7 @@ use Rattle.scheduler.proofs.Laws.Threads.{length-mapped}
 use Rattle.calls.specs.Held.{noWords}
 use Rattle.kernel.specs.declared.Kernel.{Kernel}
 use Rattle.kernel.specs.Tables.{withHeld}
-use Rattle.kernel.specs.Answers.{answered}
+use Rattle.kernel.specs.Loops.{answered}
 use Rattle.kernel.proofs.Laws.Answers.{held-out}
 use Rattle.kernel.proofs.Kernel.held_carried.Statement.{statement}
 use Rattle.kernel.proofs.Kernel.held_carried.Tie as tie

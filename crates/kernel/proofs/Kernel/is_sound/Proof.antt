@@ -7,7 +7,7 @@ use borrow.Author.Tests.{eq-eqb}
 use lib.ListN.{length, getD}
 use Rattle.lines.specs.Logic.{allBelow}
 use Rattle.scheduler.specs.declared.thread.Thread.{Thread}
-use Rattle.scheduler.specs.Threads.{noThread}
+use Rattle.scheduler.specs.Threads.{uncreated}
 use Rattle.scheduler.specs.Orders.{threadAt}
 use Rattle.scheduler.proofs.Laws.Threads.{length-mapped}
 use Rattle.objects.specs.Semaphores.{noSemaphore}
@@ -80,7 +80,7 @@ module _ (k : At tie.In-loop) where
   -- the thread and what it holds, as they are read
   thread : (d : Thread) → getD (self .scheduler .threads) t d ≡ threadOf self t
   unfolding threadAt
-  thread d = read-inside (self .scheduler .threads) t d noThread (k .loop-test .taken) (search length-mapped)
+  thread d = read-inside (self .scheduler .threads) t d uncreated (k .loop-test .taken) (search length-mapped)
 
   holds : (d : Held) → getD (self .held) t d ≡ heldAt self t
   unfolding heldAt

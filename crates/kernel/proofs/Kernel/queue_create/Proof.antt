@@ -6,9 +6,10 @@ use lib.ListN.{length}
 use Rattle.scheduler.proofs.Laws.Threads.{length-mapped}
 use Rattle.objects.specs.Queues.{sizesFitb, emptyQueue}
 use Rattle.objects.proofs.Laws.Queues.{words-byte, storage-byte}
-use Rattle.calls.specs.Refusals.{queueCreateRefusal}
+use Rattle.calls.specs.Chains.{queueCreateRefusal}
 use Rattle.kernel.specs.Tables.{queueAt, withScheduler, withQueue}
-use Rattle.kernel.specs.Answers.{answerOf, answered}
+use Rattle.kernel.specs.Answers.{answerOf}
+use Rattle.kernel.specs.Loops.{answered}
 use Rattle.kernel.specs.Edits.{edited, applied, gathered, statusOf, carriedOut}
 use Rattle.kernel.specs.Effects.{storeEffect}
 use Rattle.kernel.proofs.Laws.Answers.{is-carried, first-none, second-none, unless-none, queue-out}

@@ -1,6 +1,6 @@
 use mathlib.Core.Path.{_≡_, refl, sym, _∙_}
 use borrow.Author.Needs.{needs}
-use Rattle.calls.specs.Refusals.{queueDeleteRefusal}
+use Rattle.calls.specs.Chains.{queueDeleteRefusal}
 use Rattle.kernel.specs.Tables.{queueAt}
 use Rattle.kernel.specs.Kinds.{Kind}
 use Rattle.kernel.specs.Edits.{Cause, statusBy}

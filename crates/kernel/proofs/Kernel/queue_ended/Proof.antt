@@ -28,7 +28,7 @@ returns c by same =
     let m : c .before .if1 .self ≡ withQueue (a .t1) (a .n .0) (a .q) =
     ⊎-elim (λ w. w .1) (λ w. w .1 ∙ sym (queue-out (a .t1) (a .n .0) (a .q) l (w .0 .left))) (c .before .if1 .came) in
     let line = lineAt (a .t1 .scheduler) (placeOf Kind.queue (a .n .0)) in
-    let p = c .before .before .before .line-at .ensures .1 ∙ ap (lineAt (a .t1 .scheduler)) (c .before .before .before .before .place .ensures) in
+    let p = c .before .before .before .line-at .ensures .1 ∙ ap (lineAt (a .t1 .scheduler)) (c .before .before .before .before .queue .ensures) in
     c .ended-each .ensures by same
     ∙ (λ j. answerOf (carriedOut (m j) (does (endsEach by noWords (p j)))))
     ∙ ap answerOf (closed by noWords Kind.queue (a .t1) (a .n .0) (a .q) line)

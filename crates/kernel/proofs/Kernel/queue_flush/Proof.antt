@@ -3,9 +3,10 @@ use mathlib.Core.Bool.{true, false}
 use borrow.Author.Needs.{needs}
 use Rattle.objects.specs.declared.queue.Queue.{Queue}
 use Rattle.objects.specs.Queues.{emptyb, flushed}
-use Rattle.calls.specs.Refusals.{queueRefusal}
+use Rattle.calls.specs.Chains.{queueRefusal}
 use Rattle.kernel.specs.Tables.{queueAt, withScheduler}
-use Rattle.kernel.specs.Answers.{answerOf, answered}
+use Rattle.kernel.specs.Answers.{answerOf}
+use Rattle.kernel.specs.Loops.{answered}
 use Rattle.kernel.specs.Kinds.{Kind}
 use Rattle.kernel.specs.Edits.{Cause, statusBy, applied, gathered, statusOf, carriedOut}
 use Rattle.kernel.specs.Effects.{closeEffect}

@@ -1,8 +1,9 @@
 use mathlib.Core.Path.{_≡_, sym, _∙_}
 use borrow.Author.Needs.{needs}
-use Rattle.calls.specs.Refusals.{queueRefusal}
+use Rattle.calls.specs.Chains.{queueRefusal}
 use Rattle.kernel.specs.Tables.{queueAt, withScheduler}
-use Rattle.kernel.specs.Answers.{answerOf, answered}
+use Rattle.kernel.specs.Answers.{answerOf}
+use Rattle.kernel.specs.Loops.{answered}
 use Rattle.kernel.specs.Edits.{edited, applied, gathered, statusOf, carriedOut}
 use Rattle.kernel.specs.Effects.{rankEffect}
 use Rattle.kernel.proofs.Laws.Answers.{is-carried}
@@ -21,7 +22,7 @@ unfolding carriedOut applied gathered statusOf answerOf answered withScheduler e
 returns-2 c =
     let k = c .before .before .before .before in
     let z = sym (reason (k .before)) ∙ k .if1 .left in
-    rw is-carried (c .carried .ensures ∙ rw (c .before .prioritised .ensures, c .before .before .place .ensures))
+    rw is-carried (c .carried .ensures ∙ rw (c .before .prioritised .ensures, c .before .before .queue2 .ensures))
 
 pub queue-prioritize-spec : {M : Type 1} → statement M
 queue-prioritize-spec =

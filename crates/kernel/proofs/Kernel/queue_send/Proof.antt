@@ -8,9 +8,10 @@ use borrow.Author.Tests.{lt-ltb, le-ltb}
 use Rattle.scheduler.specs.Orders.{firstAt}
 use Rattle.scheduler.proofs.Laws.Threads.{length-mapped}
 use Rattle.calls.specs.Held.{noWords, sending}
-use Rattle.calls.specs.Refusals.{sendRefusal}
+use Rattle.calls.specs.Chains.{sendRefusal}
 use Rattle.kernel.specs.Tables.{queueAt, withScheduler, withHeld, withQueue}
-use Rattle.kernel.specs.Answers.{answerOf, answered}
+use Rattle.kernel.specs.Answers.{answerOf}
+use Rattle.kernel.specs.Loops.{answered}
 use Rattle.kernel.specs.Edits.{statusBy, recordBy, heldBy, frontb, edited, applied, gathered, endsb, statusOf, carriedOut}
 use Rattle.kernel.specs.Effects.{storeEffect, serveEffect, giveEffect}
 use Rattle.kernel.specs.Queues.{sendEffect}
@@ -63,10 +64,10 @@ returns-2 c =
     let o = queue-out (a .t1) (a .n .0) (x .5 .result) u (x .7 .left) in
     rw (x .8 ∙ sym o, x .9, x .10, x .11, ← i, ← room .ensures, x .0 .taken, ← f, le-ltb (x .2 .result .0) 32 (x .4 .left), x .5 .ensures))
     (λ x. ⊎-elim
-    (λ y. rw (y .6, y .7, y .8, y .9, ← i, ← room .ensures, y .0 .left, y .3 .ensures, y .5 .ensures))
+    (λ y. rw (y .7, y .8, y .9, y .10, ← i, ← room .ensures, y .0 .left, y .4 .ensures, y .3 .ensures, y .6 .ensures))
     (λ y.
-    let o = held-out (a .t1) (a .t1 .scheduler .running .0) (sending (a .front) (text .result)) l (y .4 .left) in
-    rw (y .5 ∙ sym o, y .6, y .7, y .8, ← i, ← room .ensures, y .0 .left, y .3 .ensures))
+    let o = held-out (a .t1) (a .t1 .scheduler .running .0) (sending (a .front) (text .result)) l (y .5 .left) in
+    rw (y .6 ∙ sym o, y .7, y .8, y .9, ← i, ← room .ensures, y .0 .left, y .4 .ensures, y .3 .ensures))
     x)
     v)
     w)
@@ -82,5 +83,5 @@ queue-send-spec =
     (λ c κs. search needs) (λ c κs. search needs) (λ c κs. search needs) (λ c κs. search needs)
     (λ c. search needs) (λ c κs. search needs) (λ c. search needs) (λ c. search needs) (λ c κs. search needs)
     (λ c κs. search needs) (λ c. search needs) (λ c. search needs) (λ c. search needs) (λ c. search needs)
-    (λ c κs. search needs) (λ c κs. search needs) (λ c. search needs) (λ c. search needs) (λ c κs. search needs)
+    (λ c κs. search needs) (λ c κs. search needs) (λ c κs. search needs) (λ c. search needs) (λ c. search needs) (λ c κs. search needs)
     returns-2)

@@ -1,6 +1,6 @@
 use borrow.Author.Needs.{needs}
 use mathlib.Core.Path.{_≡_, sym, ap, _∙_}
-use Rattle.calls.specs.Refusals.{semaphoreRefusal, ceilingRefusal}
+use Rattle.calls.specs.Chains.{semaphoreRefusal, ceilingRefusal}
 use Rattle.kernel.specs.Tables.{semaphoreAt}
 use Rattle.kernel.specs.Answers.{answerOf}
 use Rattle.kernel.specs.Semaphores.{putEffect}

@@ -2,7 +2,7 @@ use mathlib.Core.Path.{_≡_, refl, sym, ap, _∙_}
 use borrow.Author.Needs.{needs}
 use Rattle.scheduler.specs.Orders.{lineAt}
 use Rattle.calls.specs.Held.{noWords}
-use Rattle.calls.specs.Refusals.{semaphoreDeleteRefusal}
+use Rattle.calls.specs.Chains.{semaphoreDeleteRefusal}
 use Rattle.objects.specs.Semaphores.{noSemaphore}
 use Rattle.kernel.specs.Tables.{semaphoreAt, withSemaphore}
 use Rattle.kernel.specs.Answers.{answerOf}
@@ -29,7 +29,7 @@ returns-2 c =
     let h = c .before .before .before .before .before .before in
     let a = h .before .before .before .before .args in
     let z = sym (reason (h .before)) ∙ h .if1 .left in
-    let m = c .before .before .before .line-at .ensures .1 ∙ ap (lineAt (a .self .scheduler)) (c .before .before .before .before .place .ensures) in
+    let m = c .before .before .before .line-at .ensures .1 ∙ ap (lineAt (a .self .scheduler)) (c .before .before .before .before .semaphore .ensures) in
     let line = lineAt (a .self .scheduler) (placeOf Kind.semaphore (a .n .0)) in
     let by = Cause.deleted Kind.semaphore (a .n .0) in
     rw is-carried (c .ended-each .ensures by (λ th h. refl) ∙ rw (m, c .before .semaphores-with .ensures, c .before .before .none .ensures) (ap answerOf (closed by noWords Kind.semaphore (a .self) (a .n .0) noSemaphore line)))

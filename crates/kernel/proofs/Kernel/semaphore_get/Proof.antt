@@ -5,10 +5,11 @@ use mathlib.Core.Logic.{⊎-elim}
 use borrow.Author.Tests.{lt-ltb, le-ltb}
 use lib.ListN.{length}
 use Rattle.scheduler.proofs.Laws.Threads.{length-mapped}
-use Rattle.calls.specs.Held.{noWords, waiting}
-use Rattle.calls.specs.Refusals.{semaphoreGetRefusal}
+use Rattle.calls.specs.Held.{noWords, heldWaiting}
+use Rattle.calls.specs.Chains.{semaphoreGetRefusal}
 use Rattle.kernel.specs.Tables.{semaphoreAt, withScheduler, withHeld, withSemaphore}
-use Rattle.kernel.specs.Answers.{answerOf, answered}
+use Rattle.kernel.specs.Answers.{answerOf}
+use Rattle.kernel.specs.Loops.{answered}
 use Rattle.kernel.specs.Edits.{recordBy, heldBy, frontb, edited, applied, gathered, endsb, statusOf, carriedOut, guarded}
 use Rattle.kernel.specs.Effects.{takeEffect}
 use Rattle.kernel.specs.Semaphores.{semaphoreGetEffect}
@@ -43,10 +44,10 @@ returns-2 c =
     ⊎-elim
     (λ w. rw (w .4, w .5, w .6, is-carried, ← k .before .before .semaphore-in .ensures, lt-ltb 0 (x .count) (w .0 .taken), w .3 .ensures, w .2 .ensures))
     (λ w. ⊎-elim
-    (λ v. rw (v .6, v .7, v .8, is-carried, ← k .before .before .semaphore-in .ensures, le-ltb 0 (x .count) (v .0 .left), v .3 .ensures, v .5 .ensures))
+    (λ v. rw (v .7, v .8, v .9, is-carried, ← k .before .before .semaphore-in .ensures, le-ltb 0 (x .count) (v .0 .left), v .4 .ensures, v .3 .ensures, v .6 .ensures))
     (λ v.
-    let o = held-out (a .t1) (a .t1 .scheduler .running .0) waiting l (v .4 .left) in
-    rw (v .5 ∙ sym o, v .6, v .7, is-carried, ← k .before .before .semaphore-in .ensures, le-ltb 0 (x .count) (v .0 .left), v .3 .ensures))
+    let o = held-out (a .t1) (a .t1 .scheduler .running .0) heldWaiting l (v .5 .left) in
+    rw (v .6 ∙ sym o, v .7, v .8, is-carried, ← k .before .before .semaphore-in .ensures, le-ltb 0 (x .count) (v .0 .left), v .4 .ensures, v .3 .ensures))
     w)
     (d .came) in
     c .carried .ensures ∙ m
@@ -57,6 +58,6 @@ semaphore-get-spec =
     (tie.spec
     (λ c κs. search needs) (λ c κs. search needs) (λ c κs. search needs)
     (λ c. refused-by _ _ (c .refused .ensures) (reason (c .before .before)) (c .before .if1 .taken))
-    (λ c. search needs) (λ c κs. search needs) (λ c κs. search needs) (λ c. search needs) (λ c κs. search needs)
+    (λ c. search needs) (λ c κs. search needs) (λ c κs. search needs) (λ c. search needs) (λ c κs. search needs) (λ c κs. search needs)
     (λ c κs. search needs) (λ c. search needs) (λ c. search needs) (λ c κs. search needs)
     returns-2)

@@ -7,9 +7,10 @@ use borrow.Author.Tests.{lt-ltb, le-ltb}
 use Rattle.scheduler.specs.Orders.{firstAt}
 use Rattle.calls.specs.Held.{noWords}
 use Rattle.calls.specs.Statuses.{success}
-use Rattle.calls.specs.Refusals.{semaphoreRefusal}
+use Rattle.calls.specs.Chains.{semaphoreRefusal}
 use Rattle.kernel.specs.Tables.{semaphoreAt, withScheduler, withHeld, withSemaphore}
-use Rattle.kernel.specs.Answers.{answerOf, answered}
+use Rattle.kernel.specs.Answers.{answerOf}
+use Rattle.kernel.specs.Loops.{answered}
 use Rattle.kernel.specs.Edits.{statusBy, recordBy, heldBy, frontb, edited, applied, gathered, endsb, statusOf, carriedOut, guarded}
 use Rattle.kernel.specs.Effects.{oneMore, storeEffect, serveEffect, giveEffect}
 use Rattle.kernel.specs.Semaphores.{putEffect}
@@ -31,7 +32,7 @@ returns-2 c =
     let a = k .before .before .before .before .args in
     let z = sym (reason (k .before)) ∙ k .if1 .left in
     let first = c .before .before .before .first-at in
-    let f = first .ensures ∙ ap (firstAt (a .t1 .scheduler)) (c .before .before .before .before .place .ensures) in
+    let f = first .ensures ∙ ap (firstAt (a .t1 .scheduler)) (c .before .before .before .before .semaphore2 .ensures) in
     let d = c .before .if2 in
     let m : answered (d .self) (d .s) success noWords (d .ended) ≡ answerOf (guarded (a .t1) (semaphoreRefusal (semaphoreAt (a .t1) (a .n .0))) (putEffect (a .t1) (a .n .0))) =
     ⊎-elim

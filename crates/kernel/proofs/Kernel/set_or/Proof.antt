@@ -11,7 +11,7 @@ use Rattle.scheduler.proofs.Laws.Threads.{length-mapped}
 use Rattle.objects.specs.Groups.{groupWith, lessFlags}
 use Rattle.calls.specs.declared.held.Held.{Held}
 use Rattle.calls.specs.Held.{oneWord, holding, noHeld}
-use Rattle.matching.specs.Matching.{wokenOf, clearsOf}
+use Rattle.matching.specs.Loops.{wokenOf, clearsOf}
 use Rattle.lines.proofs.Laws.Lists.{getD-any}
 use native.Mathlib.Nat.{not-suc-le-zero}
 use Rattle.lines.specs.declared.Line.{Line}
@@ -78,17 +78,17 @@ loop2-holds c =
     (omega arith, omega (arith, z, w), o, held-sized (c .before .before .before .before .before .before .before .before .before .before .before .before .before .before .before), λ by same. refl)
 
 cast-u : tie.Need-cast-u Inv-loop μ-loop Inv-loop2 μ-loop2
-cast-u c = search (needs, c .before .before .before .before .before .before .before .before .before .before .before .woken .ok .1 .1 .0 .1 .1 .0 .1 .1)
+cast-u c = search (needs, c .before .before .before .before .before .before .before .before .before .before .before .before .woken .ok .1 .1 .0 .1 .1 .0 .1 .1)
 
 loop2-again : tie.Need-loop2-again Inv-loop μ-loop Inv-loop2 μ-loop2
 unfolding withScheduler withHeld holding
 loop2-again c =
-    let l = c .before .before .before .loop2 in
-    let ids = c .before .before .before .before .before .before .before .before .before .before .before .before .before .woken .result .line .ids in
+    let l = c .before .before .before .before .loop2 in
+    let ids = c .before .before .before .before .before .before .before .before .before .before .before .before .before .before .woken .result .line .ids in
     let x = getD ids (l .i) 0 in
-    let h : l .i < length ids = omega (arith, l .inv .0, l .inv .1, l .inv .2, c .before .before .loop2-test .taken) in
-    let v = c .before .before .before .before .of2 .result in
-    let f = c .before .before .before .before .of2 .ensures in
+    let h : l .i < length ids = omega (arith, l .inv .0, l .inv .1, l .inv .2, c .before .before .before .loop2-test .taken) in
+    let v = c .before .before .before .before .before .of2 .result in
+    let f = c .before .before .before .before .before .of2 .ensures in
     let g : v ≡ holding 0 (v .words) = f ∙ sym (ap (λ (y : Held). holding 0 (y .words)) f) in (
       omega arith,
       omega arith,
@@ -100,11 +100,11 @@ loop2-again c =
 loop2-again-2 : tie.Need-loop2-again-2 Inv-loop μ-loop Inv-loop2 μ-loop2
 unfolding withScheduler withHeld
 loop2-again-2 c =
-    let l = c .before .before .before .loop2 in
-    let ids = c .before .before .before .before .before .before .before .before .before .before .before .before .before .woken .result .line .ids in
+    let l = c .before .before .before .before .loop2 in
+    let ids = c .before .before .before .before .before .before .before .before .before .before .before .before .before .before .woken .result .line .ids in
     let x = getD ids (l .i) 0 in
-    let h : l .i < length ids = omega (arith, l .inv .0, l .inv .1, l .inv .2, c .before .before .loop2-test .taken) in
-    let v = c .before .before .before .before .of2 .result in
+    let h : l .i < length ids = omega (arith, l .inv .0, l .inv .1, l .inv .2, c .before .before .before .loop2-test .taken) in
+    let v = c .before .before .before .before .before .of2 .result in
     let o = held-out (withScheduler (l .self) (woken (l .s) x)) x (holding 0 (v .words)) (l .inv .3) (c .if1 .left) in (
       omega arith,
       omega arith,
@@ -131,7 +131,7 @@ returns c =
     let os = table-all (a .t1) (λ y. y .option) (l .options) refl (l .inv .2) s (λ j m. l .inv .4 j (omega (arith, m, e))) in
     let line = lineAt (a .t1 .scheduler) (placeOf Kind.group (a .n .0)) in
     let m : members (found .result) ≡ line =
-    found .ensures .1 ∙ ap (lineAt (a .t1 .scheduler)) (at .before .before .place .ensures) in
+    found .ensures .1 ∙ ap (lineAt (a .t1 .scheduler)) (at .before .before .group .ensures) in
     let o = length-members (found .result) (ap (λ (y : Line). length (y .ids)) (found .ensures .0) ∙ length-pad 32 _) in
     let q = ap (λ (xs : List ℕ). length xs) m in
     let most : length line ≤ 32 = omega (arith, o, q) in

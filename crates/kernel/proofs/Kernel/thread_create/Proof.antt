@@ -4,9 +4,10 @@ use Prim.Native.Nat.{_<_, _≤_}
 use native.Mathlib.Omega.{arith}
 use borrow.Author.Needs.{needs}
 use borrow.Author.Tests.{ltb-true, leb-true}
-use Rattle.calls.specs.Refusals.{createRefusal}
+use Rattle.calls.specs.Chains.{createRefusal}
 use Rattle.kernel.specs.Tables.{threadOf, withScheduler, withHeld}
-use Rattle.kernel.specs.Answers.{answerOf, answered}
+use Rattle.kernel.specs.Answers.{answerOf}
+use Rattle.kernel.specs.Loops.{answered}
 use Rattle.kernel.specs.Edits.{recordBy, heldBy, frontb, edited, applied, gathered, endsb, statusOf, carriedOut}
 use Rattle.kernel.specs.Threads.{createEffect}
 use Rattle.kernel.proofs.Laws.Answers.{is-carried, first-none, second-none, unless-none}

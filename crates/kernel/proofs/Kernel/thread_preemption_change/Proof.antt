@@ -4,9 +4,10 @@ use native.Mathlib.Omega.{arith}
 use borrow.Author.Needs.{needs}
 use borrow.Author.Tests.{leb-true}
 use Rattle.scheduler.specs.declared.thread.Thread.{Thread}
-use Rattle.calls.specs.Refusals.{preemptionRefusal}
+use Rattle.calls.specs.Chains.{preemptionRefusal}
 use Rattle.kernel.specs.Tables.{threadOf, withScheduler}
-use Rattle.kernel.specs.Answers.{answerOf, answered}
+use Rattle.kernel.specs.Answers.{answerOf}
+use Rattle.kernel.specs.Loops.{answered}
 use Rattle.kernel.specs.Edits.{edited, applied, gathered, statusOf, carriedOut}
 use Rattle.kernel.specs.Threads.{preemptionEffect}
 use Rattle.kernel.proofs.Laws.Answers.{is-carried, first-none, second-none, unless-none}

@@ -4,7 +4,8 @@ use lib.Seq.{set-getD}
 use mathlib.Core.Path.{sym, _∙_}
 use borrow.Author.Needs.{needs}
 use Rattle.kernel.specs.Tables.{heldAt, withScheduler, withHeld}
-use Rattle.kernel.specs.Answers.{answerOf, answered}
+use Rattle.kernel.specs.Answers.{answerOf}
+use Rattle.kernel.specs.Loops.{answered}
 use Rattle.kernel.specs.Edits.{recordBy, heldBy, frontb, edited, applied, gathered, endsb, statusOf, carriedOut}
 use Rattle.kernel.specs.Threads.{relinquishEffect}
 use Rattle.kernel.proofs.Laws.Answers.{is-carried}

@@ -1,9 +1,10 @@
 use Rattle.scheduler.specs.Orders.{joined}
 use mathlib.Core.Path.{_≡_, sym, _∙_}
 use borrow.Author.Needs.{needs}
-use Rattle.calls.specs.Refusals.{resetRefusal}
+use Rattle.calls.specs.Chains.{resetRefusal}
 use Rattle.kernel.specs.Tables.{threadOf, withScheduler, withHeld}
-use Rattle.kernel.specs.Answers.{answerOf, answered}
+use Rattle.kernel.specs.Answers.{answerOf}
+use Rattle.kernel.specs.Loops.{answered}
 use Rattle.kernel.specs.Edits.{recordBy, heldBy, frontb, edited, applied, gathered, endsb, statusOf, carriedOut}
 use Rattle.kernel.specs.Threads.{restEffect}
 use Rattle.kernel.proofs.Laws.Answers.{is-carried}
@@ -22,7 +23,7 @@ returns-2 c =
     let k = c .before .before .before .before in
     let z = sym (reason (k .before)) ∙ k .if1 .left in
     rw (is-carried, ← k .before .before .thread-at .ensures)
-    (c .held-carried .ensures ∙ rw (c .before .moved .ensures, c .before .before .of .ensures, c .before .before .before .in-state .ensures))
+    (c .held-carried .ensures ∙ rw (c .before .moved .ensures, c .before .before .of .ensures, c .before .before .before .at-rest .ensures))
 
 pub thread-reset-spec : {M : Type 1} → statement M
 thread-reset-spec =

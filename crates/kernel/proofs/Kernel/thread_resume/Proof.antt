@@ -3,9 +3,10 @@ use lib.Seq.{set-getD}
 use mathlib.Core.Path.{_≡_, sym, ap, _∙_}
 use borrow.Author.Needs.{needs}
 use Rattle.scheduler.specs.declared.thread.Thread.{Thread}
-use Rattle.calls.specs.Refusals.{resumeRefusal}
+use Rattle.calls.specs.Chains.{resumeRefusal}
 use Rattle.kernel.specs.Tables.{threadOf, heldAt, withScheduler, withHeld}
-use Rattle.kernel.specs.Answers.{answerOf, answered}
+use Rattle.kernel.specs.Answers.{answerOf}
+use Rattle.kernel.specs.Loops.{answered}
 use Rattle.kernel.specs.Edits.{recordBy, heldBy, frontb, edited, applied, gathered, endsb, statusOf, carriedOut}
 use Rattle.kernel.specs.Threads.{resumeEffect}
 use Rattle.kernel.proofs.Laws.Answers.{is-carried}
@@ -34,7 +35,7 @@ returns-3 c =
     let r = k .before .before .thread-at .ensures in
     let z = sym (reason (k .before)) ∙ k .if1 .left in
     let y = sym (ap (λ (x : Thread). x .suspending) r) ∙ c .before .before .before .if2 .left in
-    rw (is-carried, y) (c .carried2 .ensures ∙ rw (c .before .moved .ensures, c .before .before .in-state .ensures, r, set-getD))
+    rw (is-carried, y) (c .carried2 .ensures ∙ rw (c .before .moved .ensures, c .before .before .at-rest .ensures, r, set-getD))
 
 pub thread-resume-spec : {M : Type 1} → statement M
 thread-resume-spec =

@@ -1,14 +1,15 @@
 use Rattle.scheduler.specs.Orders.{joined}
-use Rattle.calls.specs.Refusals.{threadOnlyRefusal}
+use Rattle.calls.specs.Chains.{threadOnlyRefusal}
 use borrow.Author.Needs.{needs}
 use mathlib.Core.Path.{_≡_, sym, _∙_}
 use mathlib.Core.Logic.{⊎-elim}
 use borrow.Author.Tests.{eq-eqb, ne-eqb}
 use lib.ListN.{length}
 use Rattle.scheduler.proofs.Laws.Threads.{length-mapped}
-use Rattle.calls.specs.Held.{noWords, waiting}
+use Rattle.calls.specs.Held.{noWords, heldWaiting}
 use Rattle.kernel.specs.Tables.{withScheduler, withHeld}
-use Rattle.kernel.specs.Answers.{answerOf, answered}
+use Rattle.kernel.specs.Answers.{answerOf}
+use Rattle.kernel.specs.Loops.{answered}
 use Rattle.kernel.specs.Edits.{recordBy, heldBy, frontb, edited, applied, gathered, endsb, statusOf, carriedOut, guarded}
 use Rattle.kernel.specs.Threads.{sleepEffect}
 use Rattle.kernel.proofs.Laws.Answers.{is-carried, held-out}
@@ -29,7 +30,7 @@ returns-2 c =
     (λ w. rw (w .6, w .7, w .8, is-carried, ne-eqb (a .ticks) 0 (w .0 .taken), w .3 .ensures, w .5 .ensures))
     (λ w. ⊎-elim
     (λ v.
-    let o = held-out (a .t1) (a .t1 .scheduler .running .0) waiting l (v .4 .left) in
+    let o = held-out (a .t1) (a .t1 .scheduler .running .0) heldWaiting l (v .4 .left) in
     rw (v .5 ∙ sym o, v .6, v .7, is-carried, ne-eqb (a .ticks) 0 (v .0 .taken), v .3 .ensures))
     (λ v. rw (v .1, v .2, v .3, is-carried, eq-eqb (a .ticks) 0 (v .0 .left)))
     w)

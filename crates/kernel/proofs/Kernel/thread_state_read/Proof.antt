@@ -1,8 +1,9 @@
 use mathlib.Core.Path.{_≡_, sym, _∙_}
 use borrow.Author.Needs.{needs}
-use Rattle.calls.specs.Refusals.{readRefusal}
+use Rattle.calls.specs.Chains.{readRefusal}
 use Rattle.kernel.specs.Tables.{threadOf, heldAt, withScheduler}
-use Rattle.kernel.specs.Answers.{answerOf, answered}
+use Rattle.kernel.specs.Answers.{answerOf}
+use Rattle.kernel.specs.Loops.{answered}
 use Rattle.kernel.specs.Edits.{applied, gathered, statusOf, carriedOut}
 use Rattle.kernel.specs.Threads.{stateEffect}
 use Rattle.kernel.proofs.Laws.Answers.{is-carried}

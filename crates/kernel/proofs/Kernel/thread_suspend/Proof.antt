@@ -2,9 +2,10 @@ use Rattle.scheduler.specs.Orders.{joined}
 use lib.Seq.{set-getD}
 use mathlib.Core.Path.{_≡_, sym, _∙_}
 use borrow.Author.Needs.{needs}
-use Rattle.calls.specs.Refusals.{suspendRefusal}
+use Rattle.calls.specs.Chains.{suspendRefusal}
 use Rattle.kernel.specs.Tables.{threadOf, heldAt, withScheduler, withHeld}
-use Rattle.kernel.specs.Answers.{answerOf, answered}
+use Rattle.kernel.specs.Answers.{answerOf}
+use Rattle.kernel.specs.Loops.{answered}
 use Rattle.kernel.specs.Edits.{recordBy, heldBy, frontb, edited, applied, gathered, endsb, statusOf, carriedOut}
 use Rattle.kernel.specs.Threads.{suspendEffect}
 use Rattle.kernel.proofs.Laws.Answers.{is-carried}
@@ -33,7 +34,7 @@ returns-3 c =
     let o = c .before .before .before in
     let p = o .before .before in
     rw (is-carried, ← k .before .before .thread-at .ensures, ← p .before .is-paused .ensures, p .if2 .left, ← o .before .is-ready .ensures, o .if3 .taken)
-    (c .carried2 .ensures ∙ rw (c .before .moved .ensures, c .before .before .in-state .ensures, k .before .before .thread-at .ensures, set-getD))
+    (c .carried2 .ensures ∙ rw (c .before .moved .ensures, c .before .before .at-rest .ensures, k .before .before .thread-at .ensures, set-getD))
 
 returns-4 : tie.Need-returns-4
 unfolding carriedOut applied gathered statusOf answerOf answered withScheduler suspendEffect

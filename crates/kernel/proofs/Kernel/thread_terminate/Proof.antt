@@ -1,9 +1,10 @@
 use Rattle.scheduler.specs.Orders.{joined}
 use mathlib.Core.Path.{_≡_, sym, _∙_}
 use borrow.Author.Needs.{needs}
-use Rattle.calls.specs.Refusals.{terminateRefusal}
+use Rattle.calls.specs.Chains.{terminateRefusal}
 use Rattle.kernel.specs.Tables.{threadOf, withScheduler, withHeld}
-use Rattle.kernel.specs.Answers.{answerOf, answered}
+use Rattle.kernel.specs.Answers.{answerOf}
+use Rattle.kernel.specs.Loops.{answered}
 use Rattle.kernel.specs.Edits.{recordBy, heldBy, frontb, edited, applied, gathered, endsb, statusOf, carriedOut}
 use Rattle.kernel.specs.Threads.{terminateEffect}
 use Rattle.kernel.proofs.Laws.Answers.{is-carried}
@@ -29,7 +30,7 @@ returns-3 c =
     let k = c .before .before .before .before .before .before .before in
     let z = sym (reason (k .before)) ∙ k .if1 .left in
     rw (is-carried, ← k .before .before .thread-at .ensures, c .before .before .before .before .if2 .left)
-    (c .held-carried .ensures ∙ rw (c .before .moved .ensures, c .before .before .of .ensures, c .before .before .before .in-state .ensures, k .before .before .thread-at .ensures))
+    (c .held-carried .ensures ∙ rw (c .before .moved .ensures, c .before .before .of .ensures, c .before .before .before .at-rest .ensures, k .before .before .thread-at .ensures))
 
 pub thread-terminate-spec : {M : Type 1} → statement M
 thread-terminate-spec =

@@ -2,9 +2,10 @@ use Rattle.scheduler.specs.Orders.{joined}
 use Rattle.scheduler.specs.Orders.{woken}
 use mathlib.Core.Path.{_≡_, sym, _∙_}
 use borrow.Author.Needs.{needs}
-use Rattle.calls.specs.Refusals.{abortRefusal}
+use Rattle.calls.specs.Chains.{abortRefusal}
 use Rattle.kernel.specs.Tables.{threadOf, withScheduler, withHeld}
-use Rattle.kernel.specs.Answers.{answerOf, answered}
+use Rattle.kernel.specs.Answers.{answerOf}
+use Rattle.kernel.specs.Loops.{answered}
 use Rattle.kernel.specs.Edits.{statusBy, recordBy, heldBy, frontb, edited, applied, gathered, endsb, statusOf, carriedOut}
 use Rattle.kernel.specs.Threads.{abortEffect}
 use Rattle.kernel.proofs.Laws.Answers.{is-carried}

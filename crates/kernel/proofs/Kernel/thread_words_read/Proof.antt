@@ -1,8 +1,9 @@
 use mathlib.Core.Path.{_≡_, sym, _∙_}
 use borrow.Author.Needs.{needs}
-use Rattle.calls.specs.Refusals.{readRefusal}
+use Rattle.calls.specs.Chains.{readRefusal}
 use Rattle.kernel.specs.Tables.{threadOf, heldAt, withScheduler}
-use Rattle.kernel.specs.Answers.{answerOf, answered}
+use Rattle.kernel.specs.Answers.{answerOf}
+use Rattle.kernel.specs.Loops.{answered}
 use Rattle.kernel.specs.Edits.{applied, gathered, statusOf, carriedOut}
 use Rattle.kernel.specs.Threads.{wordsEffect}
 use Rattle.kernel.proofs.Laws.Answers.{is-carried}
@@ -20,7 +21,7 @@ unfolding carriedOut applied gathered statusOf answerOf answered withScheduler w
 returns-2 c =
     let k = c .before .before .before .before in
     let z = sym (reason (k .before)) ∙ k .if1 .left in
-    rw is-carried (c .carried .ensures ∙ rw (c .before .before .held-in .ensures))
+    rw is-carried (c .carried .ensures ∙ rw (c .before .held-words .ensures, c .before .before .held-in .ensures))
 
 pub thread-words-read-spec : {M : Type 1} → statement M
 thread-words-read-spec =
@@ -28,5 +29,5 @@ thread-words-read-spec =
     (tie.spec
     (λ c κs. search needs) (λ c κs. search needs) (λ c κs. search needs)
     (λ c. refused-by _ _ (c .refused .ensures) (reason (c .before .before)) (c .before .if1 .taken))
-    (λ c κs. search needs) (λ c κs. search needs)
+    (λ c κs. search needs) (λ c κs. search needs) (λ c κs. search needs)
     returns-2)

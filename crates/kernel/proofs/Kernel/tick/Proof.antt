@@ -9,7 +9,7 @@ use borrow.Author.Needs.{needs}
 use lib.ListN.{length, getD, length-set}
 use Rattle.lines.specs.Logic.{oneIf}
 use Rattle.scheduler.specs.declared.thread.Thread.{Thread}
-use Rattle.scheduler.specs.Threads.{noThread}
+use Rattle.scheduler.specs.Threads.{uncreated}
 use Rattle.scheduler.specs.Orders.{threadAt, withThread}
 use Rattle.calls.specs.Held.{noWords, noHeld}
 use Rattle.waiting.specs.Ticks.{timedb, timeoutStatus, withTicks, lastTickb}
@@ -59,7 +59,7 @@ module _ (k : tie.In-loop Inv-loop μ-loop) where
   -- the thread, as it is read
   thread : (d : Thread) → getD (at .loop .s .threads) t d ≡ threadAt (at .loop .s) t
   unfolding threadAt
-  thread d = read-inside (at .loop .s .threads) t d noThread (k .loop-test .taken) (at .loop .inv .2)
+  thread d = read-inside (at .loop .s .threads) t d uncreated (k .loop-test .taken) (at .loop .inv .2)
 
   -- a test of it is that of the thread after the ticks of those before
   tested : (test : Thread → Bool) (d : Thread) {b : Bool} → test (getD (at .loop .s .threads) t d) ≡ b → test (threadOf below t) ≡ b

@@ -1,7 +1,8 @@
 use mathlib.Core.Path.{_∙_}
 use borrow.Author.Needs.{needs}
 use Rattle.kernel.specs.Tables.{withScheduler}
-use Rattle.kernel.specs.Answers.{answerOf, answered}
+use Rattle.kernel.specs.Answers.{answerOf}
+use Rattle.kernel.specs.Loops.{answered}
 use Rattle.kernel.specs.Edits.{applied, gathered, statusOf, carriedOut, guarded}
 use Rattle.kernel.specs.Clock.{clockEffect}
 use Rattle.kernel.proofs.Kernel.time_get.Statement.{statement}

@@ -1,6 +1,7 @@
 use borrow.Author.Needs.{needs}
 use Rattle.kernel.specs.Tables.{withScheduler, withClock}
-use Rattle.kernel.specs.Answers.{answerOf, answered}
+use Rattle.kernel.specs.Answers.{answerOf}
+use Rattle.kernel.specs.Loops.{answered}
 use Rattle.kernel.specs.Edits.{edited, applied, gathered, statusOf, carriedOut, guarded}
 use Rattle.kernel.specs.Clock.{clockSetEffect}
 use Rattle.kernel.proofs.Kernel.time_set.Statement.{statement}

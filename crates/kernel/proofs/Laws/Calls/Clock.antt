@@ -14,7 +14,7 @@ use Rattle.lines.proofs.Laws.Lists
 use Rattle.lines.proofs.Laws.Less
 use Rattle.scheduler.specs.declared.thread.Thread.{Thread}
 use Rattle.calls.specs.Held.{noWords}
-use Rattle.calls.specs.Refusals.{tickRefusal}
+use Rattle.calls.specs.Chains.{tickRefusal}
 use Rattle.waiting.specs.Ticks.{timedb, lastTickb}
 use Rattle.kernel.specs.declared.Kernel.{Kernel}
 use Rattle.kernel.specs.Tables.{threadOf}

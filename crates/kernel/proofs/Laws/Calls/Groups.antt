@@ -18,7 +18,7 @@ use Rattle.scheduler.proofs.Laws.Orders
 use Rattle.calls.specs.declared.held.Held.{Held}
 use Rattle.calls.specs.Held.{noWords, oneWord, requesting}
 use Rattle.calls.specs.Statuses as Statuses
-use Rattle.calls.specs.Refusals.{groupCreateRefusal, groupDeleteRefusal, setRefusal, getRefusal}
+use Rattle.calls.specs.Chains.{groupCreateRefusal, groupDeleteRefusal, setRefusal, getRefusal}
 use Rattle.waiting.specs.Fit.{groupWaitb}
 use Rattle.waiting.proofs.Laws.Held
 use Rattle.objects.specs.Groups.{groupWith, groupFitb, metb, clearOf, lessFlags}

@@ -9,7 +9,7 @@ use Rattle.blocks.specs.declared.pool.Pool.{Pool}
 use Rattle.blocks.specs.Pools.{blockSizesb, usedb, freshPool}
 use Rattle.blocks.proofs.Laws.Pools as Records
 use Rattle.calls.specs.Statuses as Statuses
-use Rattle.calls.specs.Refusals.{poolCreateRefusal, poolDeleteRefusal, allocateRefusal, releaseRefusal, poolRefusal}
+use Rattle.calls.specs.Chains.{poolCreateRefusal, poolDeleteRefusal, allocateRefusal, releaseRefusal, poolRefusal}
 use Rattle.kernel.specs.declared.Kernel.{Kernel}
 use Rattle.kernel.specs.Tables.{poolAt}
 use Rattle.kernel.specs.Kinds.Kind.{pool}

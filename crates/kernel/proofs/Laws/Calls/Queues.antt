@@ -16,10 +16,10 @@ use Rattle.lines.proofs.Laws.Lines.{getD-pad}
 use Rattle.scheduler.specs.Threads.{placedb}
 use Rattle.scheduler.specs.Orders.{firstAt}
 use Rattle.calls.specs.declared.held.Held.{Held}
-use Rattle.calls.specs.Held.{noWords, holding, waiting, sending}
+use Rattle.calls.specs.Held.{noWords, holding, heldWaiting, sending, messageOf}
 use Rattle.calls.specs.Messages.{messageIn}
 use Rattle.calls.specs.Statuses as Statuses
-use Rattle.calls.specs.Refusals.{queueCreateRefusal, queueDeleteRefusal, sendRefusal, receiveRefusal, queueRefusal}
+use Rattle.calls.specs.Chains.{queueCreateRefusal, queueDeleteRefusal, sendRefusal, receiveRefusal, queueRefusal}
 use Rattle.waiting.specs.Fit.{blankFrom, queueWaitb}
 use Rattle.waiting.proofs.Laws.Held
 use Rattle.objects.specs.declared.queue.Queue.{Queue}
@@ -60,28 +60,30 @@ blank-message area index words =
 -- ---- who waits on a queue
 module _ (h : Held) (q : Queue) where
   -- a sender waits where there is no room, and its message is clean
-  sender-waits : q .created ≡ true → h .sending ≡ true → fullb q ≡ true → blankFrom (q .words) (h .message) ≡ true → queueWaitb h q ≡ true
+  sender-waits : q .created ≡ true → h .sending ≡ true → fullb q ≡ true → blankFrom (q .words) (messageOf h) ≡ true → queueWaitb h q ≡ true
   unfolding queueWaitb
-  sender-waits made s f b = and-in (q .created) _ made (rw s (and-in (fullb q) (blankFrom (q .words) (h .message)) f b))
+  sender-waits made s f b =
+      and-in (q .created) _ made
+      (ap (λ (z : Bool). if z then (fullb q && blankFrom (q .words) (messageOf h)) else emptyb q) s ∙ and-in (fullb q) (blankFrom (q .words) (messageOf h)) f b)
 
   receiver-waits : q .created ≡ true → h .sending ≡ false → emptyb q ≡ true → queueWaitb h q ≡ true
   unfolding queueWaitb
   receiver-waits made s e = and-in (q .created) _ made (rw s e)
 
   module _ (w : queueWaitb h q ≡ true) where
-    wait-one : (if h .sending then (fullb q && blankFrom (q .words) (h .message)) else emptyb q) ≡ true
+    wait-one : (if h .sending then (fullb q && blankFrom (q .words) (messageOf h)) else emptyb q) ≡ true
     unfolding queueWaitb
     wait-one = and-right (q .created) _ w
 
     wait-empty : h .sending ≡ false → emptyb q ≡ true
-    wait-empty s = sym (ap (λ (b : Bool). if b then (fullb q && blankFrom (q .words) (h .message)) else emptyb q) s) ∙ wait-one
+    wait-empty s = sym (ap (λ (b : Bool). if b then (fullb q && blankFrom (q .words) (messageOf h)) else emptyb q) s) ∙ wait-one
 
     -- with messages in the store it is a sender
     wait-sends : emptyb q ≡ false → h .sending ≡ true
     wait-sends e = by-test (h .sending) (λ s. s) (λ s. never (wait-empty s) e)
 
-    wait-sender : h .sending ≡ true → (fullb q && blankFrom (q .words) (h .message)) ≡ true
-    wait-sender s = sym (ap (λ (b : Bool). if b then (fullb q && blankFrom (q .words) (h .message)) else emptyb q) s) ∙ wait-one
+    wait-sender : h .sending ≡ true → (fullb q && blankFrom (q .words) (messageOf h)) ≡ true
+    wait-sender s = sym (ap (λ (b : Bool). if b then (fullb q && blankFrom (q .words) (messageOf h)) else emptyb q) s) ∙ wait-one
 
 module _ (k : Kernel) (b c : ℕ) (messages : List ℕ) (caller n : ℕ) where
   abbrev q : Queue
@@ -118,7 +120,7 @@ module _ (k : Kernel) (b c : ℕ) (messages : List ℕ) (caller n : ℕ) where
 
     send-proper : (number : ℕ) → Sound k → (eqb caller 2 ≡ true → runnerOf k < 32) → sendRefusal q c (length messages) wait caller ≡ 0 → mayMoveb number n (firstAt (k .scheduler) (placeOf queue n)) (ends (served queue n) message) ≡ true
         → mayb number n (stores queue n (withSent q front message)) ≡ true → mayMoveb number n (runnerOf k) (starts front 5 n wait (sending front message)) ≡ true → Does.Proper k number n (sendEffect k n wait front message)
-    unfolding sendEffect sendRefusal sending
+    unfolding sendEffect sendRefusal sending messageOf
     send-proper number S runs z first store wait-there =
         let made = Effects.is-true _ Statuses.queueError _ (omega arith) z in
         let fit = Objects.object-fit queue k (S .fit) n made in
@@ -148,7 +150,7 @@ module _ (k : Kernel) (b c : ℕ) (messages : List ℕ) (caller n : ℕ) where
   unfolding pastEffect mayMoveb mayb
   past f S made some p =
       let front = heldAt k f .front in
-      let message = heldAt k f .message in
+      let message = messageOf (heldAt k f) in
       let x = leftPast q front message in
       let a = Records.past-alike q front message in
       let F = S .fit in
@@ -163,10 +165,10 @@ module _ (k : Kernel) (b c : ℕ) (messages : List ℕ) (caller n : ℕ) where
             let v = Objects.waits-here queue k F n t l (Changes.kept-waits k _ t 0 e 5 ∙ w) (Changes.kept-object k _ t 0 e ∙ o) in
             let s = wait-sends (heldAt k t) q v some in
             let bl = wait-sender (heldAt k t) q v s in
-            let full = and-left (fullb q) (blankFrom (q .words) (heldAt k t .message)) bl in
+            let full = and-left (fullb q) (blankFrom (q .words) (messageOf (heldAt k t))) bl in
             ap (λ (y : Held). queueWaitb y x) (e .held)
             ∙ sender-waits (heldAt k t) x (a .0 ∙ made) s (Records.past-full q fit made front message some full)
-            (ap (λ (m : ℕ). blankFrom m (heldAt k t .message)) (a .1) ∙ and-right (fullb q) (blankFrom (q .words) (heldAt k t .message)) bl));
+            (ap (λ (m : ℕ). blankFrom m (messageOf (heldAt k t))) (a .1) ∙ and-right (fullb q) (blankFrom (q .words) (messageOf (heldAt k t))) bl));
       })
       (λ t. Effects.here n) (Effects.here n)
 
@@ -179,7 +181,7 @@ module _ (k : Kernel) (b c : ℕ) (messages : List ℕ) (caller n : ℕ) where
             let some = unless-none _ Statuses.queueEmpty (omega arith) (second-none _ _ (second-none _ _ z)) in
             by-choice (Does.Proper k 26 n) (emptyb q) _ _
             (λ e. let w = Effects.waiter-runs k caller wait runs may (not (emptyb q)) some (ap not e) in
-            Effects.proper-wait k (S .fit) 26 n S (w .1) queue false n wait waiting (w .0) Held.held-receiving (receiver-waits waiting q made refl e) refl)
+            Effects.proper-wait k (S .fit) 26 n S (w .1) queue false n wait heldWaiting (w .0) Held.held-receiving (receiver-waits heldWaiting q made refl e) refl)
             (λ e. by-choice (Does.Proper k 26 n) (waitedb k queue n) _ _
             (λ y. past _ S made e (Uses.first-waits queue k (S .fit) n y))
             (λ y. Effects.proper-store k (S .fit) 26 n queue n _ _

@@ -7,7 +7,7 @@ use native.Mathlib.Omega.{arith}
 use Rattle.objects.specs.Semaphores.{noSemaphore}
 use Rattle.calls.specs.Held.{noWords}
 use Rattle.calls.specs.Statuses as Statuses
-use Rattle.calls.specs.Refusals.{semaphoreCreateRefusal, semaphoreDeleteRefusal, semaphoreGetRefusal, semaphoreRefusal, ceilingRefusal}
+use Rattle.calls.specs.Chains.{semaphoreCreateRefusal, semaphoreDeleteRefusal, semaphoreGetRefusal, semaphoreRefusal, ceilingRefusal}
 use Rattle.kernel.specs.declared.Kernel.{Kernel}
 use Rattle.kernel.specs.Tables.{semaphoreAt}
 use Rattle.kernel.specs.Kinds.Kind.{semaphore}

@@ -11,15 +11,15 @@ use Rattle.lines.specs.Logic.{if_then_else_, implies}
 use Rattle.lines.proofs.Laws.Logic.{by-test, by-choice, never, and-left, and-right, or-rest}
 use Rattle.scheduler.specs.declared.thread.Thread.{Thread}
 use Rattle.scheduler.specs.declared.thread.Place.{Place}
-use Rattle.scheduler.specs.Threads.{uncreated, readyb, waitsb, pausedb, standsb, numberOf, placedb, inState, atRest, withSuspension, created}
+use Rattle.scheduler.specs.Threads.{uncreated, readyb, waitsb, pausedb, standsb, numberOf, placedb, inState, atRest, withSuspension, created, finishedb}
 use Rattle.scheduler.specs.Changes.{withLevels}
 use Rattle.scheduler.specs.Sound.{fitb}
 use Rattle.scheduler.proofs.Laws.Threads as Records
 use Rattle.scheduler.proofs.Laws.States
 use Rattle.calls.specs.declared.held.Held.{Held}
-use Rattle.calls.specs.Held.{noWords, oneWord, waiting}
+use Rattle.calls.specs.Held.{noWords, oneWord, heldWaiting}
 use Rattle.calls.specs.Statuses as Statuses
-use Rattle.calls.specs.Refusals.{finishedb, createRefusal, deleteRefusal, resumeRefusal, suspendRefusal, terminateRefusal, resetRefusal, threadOnlyRefusal, abortRefusal, priorityRefusal, preemptionRefusal, readRefusal}
+use Rattle.calls.specs.Chains.{createRefusal, deleteRefusal, resumeRefusal, suspendRefusal, terminateRefusal, resetRefusal, threadOnlyRefusal, abortRefusal, priorityRefusal, preemptionRefusal, readRefusal}
 use Rattle.waiting.specs.Fit.{heldFitb}
 use Rattle.waiting.proofs.Laws.Held
 use Rattle.kernel.specs.declared.Kernel.{Kernel}
@@ -187,9 +187,9 @@ module _ (k : Kernel) (b c : ℕ) (messages : List ℕ) (caller t : ℕ) where
   sleep-does ticks =
       Does.plain Does.none (λ S runs z. by-choice (Does.Proper k 9 t) (eqb ticks 0) _ _
       (λ q. Effects.proper-none k (S .fit) 9 t noWords)
-      (λ q. Effects.proper-start k (S .fit) 9 t S (runner-small runs z) false 4 0 ticks waiting (omega arith) (omega arith) (λ y. refl) (let some = eqb-false ticks 0 q in omega (arith, some))
+      (λ q. Effects.proper-start k (S .fit) 9 t S (runner-small runs z) false 4 0 ticks heldWaiting (omega arith) (omega arith) (λ y. refl) (let some = eqb-false ticks 0 q in omega (arith, some))
       (λ y m e. Held.held-waiting y m (omega (arith, e)) (λ i. omega (arith, e, i)) (λ i. omega (arith, e, i)))
-      (Fits.wait-none k (inState 4 0 ticks (threadOf k r)) waiting (omega arith)) refl))
+      (Fits.wait-none k (inState 4 0 ticks (threadOf k r)) heldWaiting (omega arith)) refl))
 
   -- ---- 10
   pub abort-does : Does.Does k caller 10 t b c messages (abortRefusal th) (abortEffect t)

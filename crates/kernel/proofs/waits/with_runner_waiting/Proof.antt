@@ -8,4 +8,4 @@ with-runner-waiting-spec =
     tie.close
     (tie.spec
     (λ c κs. search needs) (λ c κs. search needs) (λ c κs. search needs)
-    (λ c. c .joined .ensures ∙ rw (c .before .in-state .ensures, c .before .before .thread-at .ensures)))
+    (λ c. c .joined .ensures ∙ rw (c .before .waiting-at .ensures, c .before .before .thread-at .ensures)))
