@@ -19,7 +19,7 @@ extern "C" {
 /* ---- sizes */
 
 /* Bytes of a block of tables. */
-#define APACHIMO_STATE_BYTES 7326
+#define APACHIMO_STATE_BYTES 5278
 /* Words of a reply: status, sixteen words, next thread, ended waits. */
 #define APACHIMO_REPLY_WORDS 19
 /* Words of a message, at most, and of what a call answers. */
@@ -191,9 +191,10 @@ apachimo_reply apachimo_call(uint8_t *state, size_t len, uint32_t call,
 
 /* Carries out the records of a tape, at most `most` of them, and writes
  * APACHIMO_REPLY_WORDS words for each into `replies`. The first of these that
- * holds is the status, and nothing is then written: 0x05 a block of another
+ * holds is the status, and the block stays as it is: 0x05 a block of another
  * length, 0x103 no tape, 0x05 too little room for the replies, 0x100 unsound
- * tables, where each of the `carried` records answers 0x100. */
+ * tables. No reply is written then, but for 0x100, where each of the `carried`
+ * records is answered with 0x100. */
 apachimo_run_result apachimo_run(uint8_t *state, size_t len,
                                  const uint8_t *tape, size_t tape_len,
                                  uint32_t most, uint32_t *replies,

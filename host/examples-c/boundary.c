@@ -16,7 +16,7 @@ enum {
 };
 
 /* Where records of the tables stand in the block. */
-enum { THREADS = 34, SEMAPHORES = 4834, QUEUES = 4914, GROUPS = 6994, POOLS = 7034 };
+enum { THREADS = 34, SEMAPHORES = 2786, QUEUES = 2866, GROUPS = 4946, POOLS = 4986 };
 
 /* What is lent, with guards before and behind; the same again as it was. */
 typedef struct lent {
@@ -157,6 +157,14 @@ static void unknown_numbers(void)
     unknown("caller 4294967295", APACHIMO_TIME_GET, 0xFFFFFFFF);
 }
 
+/* The words of the reply to a record on unsound tables. */
+static void unsound_reply(uint32_t *words)
+{
+    memset(words, 0, APACHIMO_REPLY_WORDS * sizeof *words);
+    words[0] = APACHIMO_TABLES_UNSOUND;
+    words[APACHIMO_REPLY_WORDS - 2] = APACHIMO_NOBODY;
+}
+
 /* One byte of the block set to a value that makes the tables unsound. */
 static void unsound(const char *name, size_t at, uint8_t value)
 {
@@ -178,6 +186,8 @@ static void unsound(const char *name, size_t at, uint8_t value)
     sprintf(line, "unknown call, %s", name);
     check(line, refuses(reply, APACHIMO_TABLES_UNSOUND, APACHIMO_NOBODY), reply.status);
     result = run(state(), APACHIMO_STATE_BYTES, now.tape, TAPE_BYTES, 2, 2 * APACHIMO_REPLY_WORDS);
+    unsound_reply(before.replies + GUARD);
+    unsound_reply(before.replies + GUARD + APACHIMO_REPLY_WORDS);
     sprintf(line, "run, %s", name);
     check(line, result.status == APACHIMO_TABLES_UNSOUND && result.carried == 2, result.status);
 }
@@ -287,7 +297,7 @@ static void carried_out(void)
     memcpy(before.state + GUARD, state(), APACHIMO_STATE_BYTES);
     memcpy(before.replies + GUARD, replies(), written);
     check("a run of two records",
-          result.status == TX_SUCCESS && result.carried == 2 && state()[7322] == 7 &&
+          result.status == TX_SUCCESS && result.carried == 2 && state()[5274] == 7 &&
               replies()[0] == 0 && replies()[17] == 0 && replies()[APACHIMO_REPLY_WORDS] == 0,
           result.status);
     memset(state(), 0xFF, APACHIMO_STATE_BYTES);

@@ -1,7 +1,7 @@
--- The block of bytes that tables are written to: the counterpart of State.
-use mathlib.Core.List.{List, _∷_, _++_}
+-- The block of bytes that tables are written to (rule 14.1): the counterpart of State.
+use mathlib.Core.List.{List, [], _∷_, _++_}
 use mathlib.Core.Bool.{Bool}
-use Prim.Native.Nat.{ℕ, _/_, _%_}
+use Prim.Native.Nat.{ℕ}
 use Rattle.scheduler.specs.declared.thread.Thread.{Thread}
 use Rattle.scheduler.specs.declared.Scheduler.{Scheduler}
 use Rattle.objects.specs.declared.semaphore.Semaphore.{Semaphore}
@@ -10,47 +10,55 @@ use Rattle.objects.specs.declared.group.Group.{Group}
 use Rattle.blocks.specs.declared.pool.Pool.{Pool}
 use Rattle.calls.specs.declared.held.Held.{Held}
 use Rattle.kernel.specs.declared.Kernel.{Kernel}
-use Rattle.apachimo.specs.Blocks.{flagByte, wordBytes, allBytes}
+use Rattle.words.specs.Words.{wordBytes, halfBytes}
+use Rattle.apachimo.specs.Blocks.{flagByte, allBytes}
 
 -- ---- records
+-- the bytes of a thread
 unfoldable pub threadBytes : Thread → List ℕ
 threadBytes th =
-    flagByte (th .created) ∷ th .state ∷ th .priority ∷ th .threshold ∷ flagByte (th .marked) ∷ flagByte (th .suspending) ∷ th .object ∷ wordBytes (th .ticks)
+    flagByte (th .created) ∷ th .state ∷ th .priority ∷ th .threshold ∷ flagByte (th .marked) ∷ flagByte (th .suspending) ∷ th .object
+    ∷ wordBytes (th .ticks)
 
+-- the bytes of what a thread holds
 unfoldable pub heldBytes : Held → List ℕ
 heldBytes h =
     wordBytes (h .status)
     ++ (allBytes wordBytes (h .words)
-    ++ (flagByte (h .sending) ∷ flagByte (h .front) ∷ (wordBytes (h .request) ++ (h .option ∷ allBytes wordBytes (h .message)))))
+    ++ (flagByte (h .sending) ∷ flagByte (h .front) ∷ (wordBytes (h .request) ++ (h .option ∷ []))))
 
--- a flag and a word: a semaphore, or a group
+-- the bytes of a flag and a word, which a semaphore is, and a group
 unfoldable pub flaggedBytes : Bool → ℕ → List ℕ
 flaggedBytes f x = flagByte f ∷ wordBytes x
 
+-- the bytes of a semaphore
 abbrev pub semaphoreBytes : Semaphore → List ℕ
 semaphoreBytes x = flaggedBytes (x .created) (x .count)
 
+-- the bytes of a group
 abbrev pub groupBytes : Group → List ℕ
 groupBytes g = flaggedBytes (g .created) (g .flags)
 
+-- the bytes of a queue
 unfoldable pub queueBytes : Queue → List ℕ
 queueBytes q = flagByte (q .created) ∷ q .words ∷ q .storage ∷ q .stored ∷ allBytes wordBytes (q .store)
 
+-- the bytes of a pool
 unfoldable pub poolBytes : Pool → List ℕ
-poolBytes p = flagByte (p .created) ∷ p .block % 0x100 ∷ p .block / 0x100 % 0x100 ∷ (wordBytes (p .total) ++ (p .free ∷ p .list))
+poolBytes p = flagByte (p .created) ∷ (halfBytes (p .block) ++ (wordBytes (p .total) ++ (p .free ∷ p .list)))
 
 -- ---- the tables
+-- the bytes of the runner, the order and the threads
 unfoldable pub schedulerBytes : Scheduler → List ℕ
 schedulerBytes s = s .running .0 ∷ (s .order .ids ++ (s .order .len ∷ allBytes threadBytes (s .threads)))
 
--- the tables of objects, and the clock
-unfoldable pub objectBytes : List Semaphore → List Queue → List Group → List Pool → ℕ → List ℕ
-objectBytes semaphores queues groups pools clock =
-    allBytes semaphoreBytes semaphores
-    ++ (allBytes queueBytes queues
-    ++ (allBytes groupBytes groups
-    ++ (allBytes poolBytes pools
-    ++ wordBytes clock)))
-
+-- rule 14.1: the bytes of the tables
 unfoldable pub bytesOf : Kernel → List ℕ
-bytesOf k = schedulerBytes (k .scheduler) ++ (allBytes heldBytes (k .held) ++ objectBytes (k .semaphores) (k .queues) (k .groups) (k .pools) (k .clock))
+bytesOf k =
+    schedulerBytes (k .scheduler)
+    ++ (allBytes heldBytes (k .held)
+    ++ (allBytes semaphoreBytes (k .semaphores)
+    ++ (allBytes queueBytes (k .queues)
+    ++ (allBytes groupBytes (k .groups)
+    ++ (allBytes poolBytes (k .pools)
+    ++ wordBytes (k .clock))))))

@@ -1,8 +1,9 @@
--- When tables fit a block, as every value of the code's types does, and what is claimed of the block that such tables are written to.
+-- When tables fit a block, as every value of the code's types does, and what is claimed of the block that such tables are written to
+-- (rule 14.2).
 use mathlib.Core.Path.{_≡_}
 use mathlib.Core.List.{List, [], _∷_}
 use mathlib.Core.Bool.{true}
-use Prim.Native.Nat.{ℕ, _<_}
+use Prim.Native.Nat.{ℕ}
 use lib.ListN.{length}
 use Rattle.scheduler.specs.declared.thread.Thread.{Thread}
 use Rattle.scheduler.specs.declared.Scheduler.{Scheduler}
@@ -12,22 +13,22 @@ use Rattle.objects.specs.declared.group.Group.{Group}
 use Rattle.blocks.specs.declared.pool.Pool.{Pool}
 use Rattle.calls.specs.declared.held.Held.{Held}
 use Rattle.kernel.specs.declared.Kernel.{Kernel}
-use Rattle.apachimo.specs.State.{stateBytes, kernelOf, flagsFitb}
+use Rattle.words.specs.Words.{Byte, Half, Word}
+use Rattle.apachimo.specs.Layout.{
+  threadCount,
+  semaphoreCount,
+  queueCount,
+  groupCount,
+  poolCount,
+  wordCount,
+  storeCount,
+  listCount,
+  stateBytes,
+}
+use Rattle.apachimo.specs.State.{kernelOf, flagsFitb}
 use Rattle.apachimo.specs.Bytes.{bytesOf}
 
--- ---- numbers and arrays
--- a number that one byte holds
-abbrev pub Byte : ℕ → Type 0
-Byte x = x < 0x100
-
--- a number that two bytes hold
-abbrev pub Half : ℕ → Type 0
-Half x = x < 0x1_0000
-
--- a number that four bytes hold
-abbrev pub Word : ℕ → Type 0
-Word x = x < 0x1_0000_0000
-
+-- ---- arrays
 -- P holds of every element
 abbrev pub All : {A : Type 0} → (A → Type 0) → List A → Type 0
 All P [] = Unit {0}
@@ -39,7 +40,7 @@ pub record Array {A : Type 0} (P : A → Type 0) (n : ℕ) (xs : List A) : Type 
   pub each : All P xs
 
 -- ---- records
--- a thread fits its 11 bytes
+-- a thread fits its bytes
 pub record ThreadFits (th : Thread) : Type 0 where
   pub state : Byte (th .state)
   pub priority : Byte (th .priority)
@@ -47,55 +48,55 @@ pub record ThreadFits (th : Thread) : Type 0 where
   pub object : Byte (th .object)
   pub ticks : Word (th .ticks)
 
--- what a thread holds fits its 139 bytes
+-- what a thread holds fits its bytes
 pub record HeldFits (h : Held) : Type 0 where
   pub status : Word (h .status)
-  pub words : Array Word 16 (h .words)
+  pub words : Array Word wordCount (h .words)
   pub request : Word (h .request)
   pub option : Byte (h .option)
-  pub message : Array Word 16 (h .message)
 
--- a semaphore fits its 5 bytes
+-- a semaphore fits its bytes
 pub record SemaphoreFits (x : Semaphore) : Type 0 where
   pub count : Word (x .count)
 
--- a queue fits its 260 bytes
+-- a queue fits its bytes
 pub record QueueFits (q : Queue) : Type 0 where
   pub words : Byte (q .words)
   pub storage : Byte (q .storage)
   pub stored : Byte (q .stored)
-  pub store : Array Word 64 (q .store)
+  pub store : Array Word storeCount (q .store)
 
--- a group fits its 5 bytes
+-- a group fits its bytes
 pub record GroupFits (g : Group) : Type 0 where
   pub flags : Word (g .flags)
 
--- a pool fits its 72 bytes
+-- a pool fits its bytes
 pub record PoolFits (p : Pool) : Type 0 where
   pub block : Half (p .block)
   pub total : Word (p .total)
   pub free : Byte (p .free)
-  pub list : Array Byte 64 (p .list)
+  pub list : Array Byte listCount (p .list)
 
 -- ---- the tables
--- the scheduler fits its 386 bytes
+-- the scheduler fits its bytes
 pub record SchedulerFits (s : Scheduler) : Type 0 where
   pub running : Byte (s .running .0)
-  pub ids : Array Byte 32 (s .order .ids)
+  pub ids : Array Byte threadCount (s .order .ids)
   pub len : Byte (s .order .len)
-  pub threads : Array ThreadFits 32 (s .threads)
+  pub threads : Array ThreadFits threadCount (s .threads)
 
--- the tables fit a block
+-- rule 14.2: the tables fit a block
 pub record Fits (k : Kernel) : Type 0 where
   pub scheduler : SchedulerFits (k .scheduler)
-  pub held : Array HeldFits 32 (k .held)
-  pub semaphores : Array SemaphoreFits 16 (k .semaphores)
-  pub queues : Array QueueFits 8 (k .queues)
-  pub groups : Array GroupFits 8 (k .groups)
-  pub pools : Array PoolFits 4 (k .pools)
+  pub held : Array HeldFits threadCount (k .held)
+  pub semaphores : Array SemaphoreFits semaphoreCount (k .semaphores)
+  pub queues : Array QueueFits queueCount (k .queues)
+  pub groups : Array GroupFits groupCount (k .groups)
+  pub pools : Array PoolFits poolCount (k .pools)
   pub clock : Word (k .clock)
 
 -- ---- claims
+-- rules 14.1, 14.2: the block that tables are written to
 pub record BlockClaims : Type 0 where
   -- a block has its size
   pub sized : (k : Kernel) → Fits k → length (bytesOf k) ≡ stateBytes
@@ -103,5 +104,5 @@ pub record BlockClaims : Type 0 where
   pub bytes : (k : Kernel) → Fits k → All Byte (bytesOf k)
   -- every flag that is written is 0 or 1
   pub flagged : (k : Kernel) → Fits k → flagsFitb (bytesOf k) ≡ true
-  -- the tables that are read are those that were written
+  -- rule 14.2: the tables that are read are those that were written
   pub restored : (k : Kernel) → Fits k → kernelOf (bytesOf k) ≡ k

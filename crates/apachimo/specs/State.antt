@@ -1,4 +1,5 @@
--- The tables that a block of bytes holds. The fields lie in the kernel's order with no gaps.
+-- The tables that a block of bytes holds (rule 14.1), and the test of its flags (rule 14.3). The fields lie in the kernel's order with no
+-- gaps.
 use mathlib.Core.List.{List}
 use mathlib.Core.Bool.{Bool, _&&_}
 use Prim.Native.Nat.{ℕ, _+_, _*_}
@@ -12,98 +13,173 @@ use Rattle.objects.specs.declared.group.Group.{Group}
 use Rattle.blocks.specs.declared.pool.Pool.{Pool}
 use Rattle.calls.specs.declared.held.Held.{Held}
 use Rattle.kernel.specs.declared.Kernel.{Kernel}
-use Rattle.apachimo.specs.Blocks.{part, byteAt, flagAt, wordOf, tableOf, wordsOf}
-
--- a block of tables has so many bytes
-abbrev pub stateBytes : ℕ
-stateBytes = 7326
+use Rattle.words.specs.Words.{wordSize, halfSize}
+use Rattle.apachimo.specs.Blocks.{part, byteAt, flagAt, wordOf, halfOf, tableOf, wordsOf}
+use Rattle.apachimo.specs.Layout.{
+  clockAt,
+  flaggedCreated,
+  flaggedSize,
+  flaggedWord,
+  groupCount,
+  groupsAt,
+  heldAt,
+  heldFront,
+  heldOption,
+  heldRequest,
+  heldSending,
+  heldSize,
+  heldStatus,
+  heldWords,
+  listCount,
+  poolBlock,
+  poolCount,
+  poolCreated,
+  poolFree,
+  poolList,
+  poolSize,
+  poolTotal,
+  poolsAt,
+  queueCount,
+  queueCreated,
+  queueSize,
+  queueStorage,
+  queueStore,
+  queueStored,
+  queueWords,
+  queuesAt,
+  schedulerAt,
+  schedulerIds,
+  schedulerLen,
+  schedulerRunning,
+  schedulerSize,
+  schedulerThreads,
+  semaphoreCount,
+  semaphoresAt,
+  storeCount,
+  storeSize,
+  threadCount,
+  threadCreated,
+  threadMarked,
+  threadObject,
+  threadPriority,
+  threadSize,
+  threadState,
+  threadSuspending,
+  threadThreshold,
+  threadTicks,
+  threadsAt,
+  wordCount,
+  wordsSize,
+}
 
 -- ---- records
--- a thread has 11 bytes
+-- a thread, from its bytes
 unfoldable pub threadOf : List ℕ → Thread
 threadOf b =
     record {
-      created = flagAt b 0;
-      state = byteAt b 1;
-      priority = byteAt b 2;
-      threshold = byteAt b 3;
-      marked = flagAt b 4;
-      suspending = flagAt b 5;
-      object = byteAt b 6;
-      ticks = wordOf (part 7 4 b);
+      created = flagAt b threadCreated;
+      state = byteAt b threadState;
+      priority = byteAt b threadPriority;
+      threshold = byteAt b threadThreshold;
+      marked = flagAt b threadMarked;
+      suspending = flagAt b threadSuspending;
+      object = byteAt b threadObject;
+      ticks = wordOf (part threadTicks wordSize b);
     }
 
--- what a thread holds has 139 bytes
+-- what a thread holds; of a waiting sender the words are its message
 unfoldable pub heldOf : List ℕ → Held
 heldOf b =
     record {
-      status = wordOf (part 0 4 b);
-      words = wordsOf 16 (part 4 64 b);
-      sending = flagAt b 68;
-      front = flagAt b 69;
-      request = wordOf (part 70 4 b);
-      option = byteAt b 74;
-      message = wordsOf 16 (part 75 64 b);
+      status = wordOf (part heldStatus wordSize b);
+      words = wordsOf wordCount (part heldWords wordsSize b);
+      sending = flagAt b heldSending;
+      front = flagAt b heldFront;
+      request = wordOf (part heldRequest wordSize b);
+      option = byteAt b heldOption;
     }
 
--- a semaphore has 5 bytes
+-- a semaphore
 unfoldable pub semaphoreOf : List ℕ → Semaphore
-semaphoreOf b = record { created = flagAt b 0; count = wordOf (part 1 4 b) }
+semaphoreOf b = record { created = flagAt b flaggedCreated; count = wordOf (part flaggedWord wordSize b) }
 
--- a queue has 260 bytes
+-- a queue
 unfoldable pub queueOf : List ℕ → Queue
-queueOf b = record { created = flagAt b 0; words = byteAt b 1; storage = byteAt b 2; stored = byteAt b 3; store = wordsOf 64 (part 4 256 b) }
+queueOf b =
+    record {
+      created = flagAt b queueCreated;
+      words = byteAt b queueWords;
+      storage = byteAt b queueStorage;
+      stored = byteAt b queueStored;
+      store = wordsOf storeCount (part queueStore storeSize b);
+    }
 
--- a group has 5 bytes
+-- a group
 unfoldable pub groupOf : List ℕ → Group
-groupOf b = record { created = flagAt b 0; flags = wordOf (part 1 4 b) }
+groupOf b = record { created = flagAt b flaggedCreated; flags = wordOf (part flaggedWord wordSize b) }
 
--- a pool has 72 bytes
+-- a pool
 unfoldable pub poolOf : List ℕ → Pool
-poolOf b = record { created = flagAt b 0; block = byteAt b 1 + 0x100 * byteAt b 2; total = wordOf (part 3 4 b); free = byteAt b 7; list = part 8 64 b }
+poolOf b =
+    record {
+      created = flagAt b poolCreated;
+      block = halfOf (part poolBlock halfSize b);
+      total = wordOf (part poolTotal wordSize b);
+      free = byteAt b poolFree;
+      list = part poolList listCount b;
+    }
 
 -- ---- the tables
+-- the runner, the order and the threads
 unfoldable pub schedulerOf : List ℕ → Scheduler
 schedulerOf b =
     record {
-      running = record { 0 = byteAt b 0 };
-      order = record { ids = part 1 32 b; len = byteAt b 33 };
-      threads = tableOf threadOf 11 32 (part 34 352 b);
+      running = record { 0 = byteAt b schedulerRunning };
+      order = record { ids = part schedulerIds threadCount b; len = byteAt b schedulerLen };
+      threads = tableOf threadOf threadSize threadCount (part schedulerThreads (threadSize * threadCount) b);
     }
 
+-- rule 14.1: the tables of a block
 unfoldable pub kernelOf : List ℕ → Kernel
 kernelOf b =
     record {
-      scheduler = schedulerOf (part 0 386 b);
-      held = tableOf heldOf 139 32 (part 386 4448 b);
-      semaphores = tableOf semaphoreOf 5 16 (part 4834 80 b);
-      queues = tableOf queueOf 260 8 (part 4914 2080 b);
-      groups = tableOf groupOf 5 8 (part 6994 40 b);
-      pools = tableOf poolOf 72 4 (part 7034 288 b);
-      clock = wordOf (part 7322 4 b);
+      scheduler = schedulerOf (part schedulerAt schedulerSize b);
+      held = tableOf heldOf heldSize threadCount (part heldAt (heldSize * threadCount) b);
+      semaphores = tableOf semaphoreOf flaggedSize semaphoreCount (part semaphoresAt (flaggedSize * semaphoreCount) b);
+      queues = tableOf queueOf queueSize queueCount (part queuesAt (queueSize * queueCount) b);
+      groups = tableOf groupOf flaggedSize groupCount (part groupsAt (flaggedSize * groupCount) b);
+      pools = tableOf poolOf poolSize poolCount (part poolsAt (poolSize * poolCount) b);
+      clock = wordOf (part clockAt wordSize b);
     }
 
 -- ---- flags
--- a flag is 0 or 1
+-- the flag at a byte is 0 or 1
 abbrev pub flagb : List ℕ → ℕ → Bool
 flagb b at = leb (byteAt b at) 1
 
 -- those of threads and of what they hold
 unfoldable pub threadFlagsb : List ℕ → Bool
-threadFlagsb b = allBelow 32 (λ i. flagb b (34 + 11 * i) && flagb b (38 + 11 * i) && flagb b (39 + 11 * i) && flagb b (454 + 139 * i) && flagb b (455 + 139 * i))
+threadFlagsb b =
+    allBelow threadCount (λ i. flagb b (threadsAt + threadCreated + threadSize * i)
+    && flagb b (threadsAt + threadMarked + threadSize * i)
+    && flagb b (threadsAt + threadSuspending + threadSize * i)
+    && flagb b (heldAt + heldSending + heldSize * i)
+    && flagb b (heldAt + heldFront + heldSize * i))
 
 -- those of semaphores
 unfoldable pub semaphoreFlagsb : List ℕ → Bool
-semaphoreFlagsb b = allBelow 16 (λ i. flagb b (4834 + 5 * i))
+semaphoreFlagsb b = allBelow semaphoreCount (λ i. flagb b (semaphoresAt + flaggedCreated + flaggedSize * i))
 
--- those of queues and groups
+-- those of queues and groups, of which there are as many
 unfoldable pub queueFlagsb : List ℕ → Bool
-queueFlagsb b = allBelow 8 (λ i. flagb b (4914 + 260 * i) && flagb b (6994 + 5 * i))
+queueFlagsb b =
+    allBelow queueCount (λ i. flagb b (queuesAt + queueCreated + queueSize * i)
+    && flagb b (groupsAt + flaggedCreated + flaggedSize * i))
 
 -- those of pools
 unfoldable pub poolFlagsb : List ℕ → Bool
-poolFlagsb b = allBelow 4 (λ i. flagb b (7034 + 72 * i))
+poolFlagsb b = allBelow poolCount (λ i. flagb b (poolsAt + poolCreated + poolSize * i))
 
--- every flag of the block is 0 or 1
+-- rule 14.3: every flag of the block is 0 or 1
 unfoldable pub flagsFitb : List ℕ → Bool
 flagsFitb b = threadFlagsb b && semaphoreFlagsb b && queueFlagsb b && poolFlagsb b

@@ -2,7 +2,28 @@
 ghost use mathlib.Core.Path.{_≡_};
 ghost use Prim.Native.Nat.{_<_};
 ghost use lib.ListN.{length};
-ghost use Rattle.apachimo.specs.State.{stateBytes, flagb, threadFlagsb, semaphoreFlagsb, queueFlagsb, poolFlagsb, flagsFitb};
+ghost use Rattle.apachimo.specs.Layout.{stateBytes};
+ghost use Rattle.apachimo.specs.State.{flagb, threadFlagsb, semaphoreFlagsb, queueFlagsb, poolFlagsb, flagsFitb};
+use super::layout;
+
+// Where the first flag of each kind lies.
+const THREAD_CREATED: usize = layout::THREADS_AT + layout::THREAD_CREATED;
+
+const THREAD_MARKED: usize = layout::THREADS_AT + layout::THREAD_MARKED;
+
+const THREAD_SUSPENDING: usize = layout::THREADS_AT + layout::THREAD_SUSPENDING;
+
+const HELD_SENDING: usize = layout::HELD_AT + layout::HELD_SENDING;
+
+const HELD_FRONT: usize = layout::HELD_AT + layout::HELD_FRONT;
+
+const SEMAPHORE_CREATED: usize = layout::SEMAPHORES_AT + layout::FLAGGED_CREATED;
+
+const QUEUE_CREATED: usize = layout::QUEUES_AT + layout::QUEUE_CREATED;
+
+const GROUP_CREATED: usize = layout::GROUPS_AT + layout::FLAGGED_CREATED;
+
+const POOL_CREATED: usize = layout::POOLS_AT + layout::POOL_CREATED;
 
 fn is_flag(block: &[u8], at: usize) -> bool
     requires { ⌜ at < length (now block) ⌝ }
@@ -18,13 +39,13 @@ fn threads_fit(block: &[u8]) -> bool
 {
     let mut fit = true;
     let mut i: usize = 0;
-    while i < 32 {
+    while i < layout::THREADS {
         fit = fit
-            & (is_flag(block, 34 + 11 * i)
-                & is_flag(block, 38 + 11 * i)
-                & is_flag(block, 39 + 11 * i)
-                & is_flag(block, 454 + 139 * i)
-                & is_flag(block, 455 + 139 * i));
+            & (is_flag(block, THREAD_CREATED + layout::THREAD_BYTES * i)
+                & is_flag(block, THREAD_MARKED + layout::THREAD_BYTES * i)
+                & is_flag(block, THREAD_SUSPENDING + layout::THREAD_BYTES * i)
+                & is_flag(block, HELD_SENDING + layout::HELD_BYTES * i)
+                & is_flag(block, HELD_FRONT + layout::HELD_BYTES * i));
         i += 1;
     }
     fit
@@ -37,8 +58,8 @@ fn semaphores_fit(block: &[u8]) -> bool
 {
     let mut fit = true;
     let mut i: usize = 0;
-    while i < 16 {
-        fit = fit & is_flag(block, 4834 + 5 * i);
+    while i < layout::SEMAPHORES {
+        fit = fit & is_flag(block, SEMAPHORE_CREATED + layout::FLAGGED_BYTES * i);
         i += 1;
     }
     fit
@@ -51,8 +72,10 @@ fn queues_fit(block: &[u8]) -> bool
 {
     let mut fit = true;
     let mut i: usize = 0;
-    while i < 8 {
-        fit = fit & (is_flag(block, 4914 + 260 * i) & is_flag(block, 6994 + 5 * i));
+    while i < layout::QUEUES {
+        fit = fit
+            & (is_flag(block, QUEUE_CREATED + layout::QUEUE_BYTES * i)
+                & is_flag(block, GROUP_CREATED + layout::FLAGGED_BYTES * i));
         i += 1;
     }
     fit
@@ -65,8 +88,8 @@ fn pools_fit(block: &[u8]) -> bool
 {
     let mut fit = true;
     let mut i: usize = 0;
-    while i < 4 {
-        fit = fit & is_flag(block, 7034 + 72 * i);
+    while i < layout::POOLS {
+        fit = fit & is_flag(block, POOL_CREATED + layout::POOL_BYTES * i);
         i += 1;
     }
     fit

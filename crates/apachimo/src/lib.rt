@@ -6,8 +6,10 @@ ghost use mathlib.Core.Path.{_≡_};
 ghost use lib.ListN.{length};
 ghost use Rattle.kernel.specs.Claims.{doneb};
 ghost use Rattle.kernel.specs.General.{call};
-ghost use Rattle.apachimo.specs.State.{stateBytes, kernelOf};
-ghost use Rattle.apachimo.specs.Library.{blockRefusal, startStatus, startBlock, soundStatus, noReply, callReply, callBlock, runRefusal, runResult, runBlock, runReplies};
+ghost use Rattle.apachimo.specs.Layout.{stateBytes};
+ghost use Rattle.apachimo.specs.State.{kernelOf};
+ghost use Rattle.apachimo.specs.Library.{blockRefusal, startStatus, startBlock, soundStatus, requestOf, callReply, callBlock, runRefusal, runResult, runBlock, runReplies};
+use calls::call::Request;
 use calls::status::SIZE_ERROR;
 use calls::status::SUCCESS;
 use calls::status::SUSPEND_LIFTED;
@@ -15,16 +17,17 @@ use calls::status::TABLES_UNSOUND;
 use calls::status::TAPE_REFUSED;
 use calls::status::WAITING;
 use kernel::Kernel;
-use lines::NOBODY;
+use numbers::NOBODY;
+use numbers::ThreadId;
 use tape::replies::REPLY_WORDS;
 use tape::replies::Reply;
+use tape::replies::put_replies;
+use tape::replies::refusal;
 
 pub mod flags;
+pub mod layout;
 pub mod reading;
 pub mod writing;
-
-// The bytes of a block of tables.
-pub const STATE_BYTES: usize = 7326;
 
 // A run's result: its own status, and how many records it carried out.
 #[repr(C)]
@@ -37,25 +40,13 @@ pub struct Run {
 fn block_refusal(state: &[u8]) -> u32
     ensures { λ r. ⌜ r ≡ blockRefusal (now (state .entry)) ⌝ }
 {
-    if state.len() != STATE_BYTES {
+    if state.len() != layout::STATE_BYTES {
         return SIZE_ERROR;
     }
     if flags::are_fit(state) {
         0
     } else {
         TABLES_UNSOUND
-    }
-}
-
-// The reply to a call that does not come to the kernel.
-fn no_reply(status: u32) -> Reply
-    ensures { λ r. ⌜ r ≡ noReply status ⌝ }
-{
-    Reply {
-        status,
-        words: [0; 16],
-        next: NOBODY as u32,
-        ended: 0,
     }
 }
 
@@ -70,7 +61,7 @@ fn is_done(status: u32) -> bool
 fn run_refusal(state: &[u8], tape: &[u8], most: u32, room: usize) -> u32
     ensures { λ r. ⌜ r ≡ runRefusal (now (state .entry)) (now (tape .entry)) most room ⌝ }
 {
-    if state.len() != STATE_BYTES {
+    if state.len() != layout::STATE_BYTES {
         return SIZE_ERROR;
     }
     if tape::is_refused(tape) {
@@ -92,7 +83,7 @@ fn run_refusal(state: &[u8], tape: &[u8], most: u32, room: usize) -> u32
 pub extern "C" fn apachimo_state_bytes() -> usize
     ensures { λ r. ⌜ r ≡ stateBytes ⌝ }
 {
-    STATE_BYTES
+    layout::STATE_BYTES
 }
 
 // Writes tables in which nothing is created.
@@ -101,7 +92,7 @@ pub extern "C" fn apachimo_start(state: &mut [u8]) -> u32
     ensures { λ r. ⌜ r ≡ startStatus (now (state .entry)) ⌝ }
     ensures { λ _. ⌜ now (state .exit) ≡ startBlock (now (state .entry)) ⌝ }
 {
-    if state.len() != STATE_BYTES {
+    if state.len() != layout::STATE_BYTES {
         return SIZE_ERROR;
     }
     writing::put_kernel(state, Kernel::start());
@@ -138,15 +129,23 @@ pub extern "C" fn apachimo_call(
     d: u32,
     messages: &[u32],
 ) -> Reply
-    ensures { λ r. ⌜ r ≡ callReply (now (state .entry)) (call (kernelOf (now (state .entry))) number caller a b c d (now (messages .entry))) ⌝ }
-    ensures { λ _. ⌜ now (state .exit) ≡ callBlock (now (state .entry)) (call (kernelOf (now (state .entry))) number caller a b c d (now (messages .entry))) ⌝ }
+    ensures { λ r. ⌜ r ≡ callReply (now (state .entry)) (call (kernelOf (now (state .entry))) (requestOf number caller a b c d) (now (messages .entry))) ⌝ }
+    ensures { λ _. ⌜ now (state .exit) ≡ callBlock (now (state .entry)) (call (kernelOf (now (state .entry))) (requestOf number caller a b c d) (now (messages .entry))) ⌝ }
 {
     let reason = block_refusal(state);
     if reason != 0 {
-        return no_reply(reason);
+        return refusal(reason, ThreadId(NOBODY));
     }
     let k = reading::kernel_of(state);
-    let answer = k.call(number, caller, a, b, c, d, messages);
+    let request = Request {
+        number,
+        caller,
+        a,
+        b,
+        c,
+        d,
+    };
+    let answer = k.call(request, messages);
     let words = answer.words;
     let next = answer.next;
     let reply = Reply {
@@ -162,7 +161,7 @@ pub extern "C" fn apachimo_call(
 }
 
 // Carries out the records of a tape, at most `most` of them, and writes nineteen words for each: status, sixteen words, next
-// thread, ended waits.
+// thread, ended waits. On unsound tables each record is answered with 0x100.
 #[no_mangle]
 pub extern "C" fn apachimo_run(state: &mut [u8], tape: &[u8], most: u32, replies: &mut [u32]) -> Run
     ensures { λ r. ⌜ r ≡ runResult (now (state .entry)) (now (tape .entry)) most (length (now (replies .entry))) ⌝ }
@@ -171,9 +170,11 @@ pub extern "C" fn apachimo_run(state: &mut [u8], tape: &[u8], most: u32, replies
 {
     let reason = run_refusal(state, tape, most, replies.len());
     if reason == TABLES_UNSOUND {
+        let n = tape::wanted(tape, most);
+        put_replies(replies, n, refusal(reason, ThreadId(NOBODY)));
         return Run {
             status: reason,
-            carried: tape::wanted(tape, most),
+            carried: n,
         };
     }
     if reason != 0 {

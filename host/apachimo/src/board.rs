@@ -8,7 +8,7 @@ use crate::tables::Tables;
 use std::fmt;
 
 /// Bytes of a block of tables.
-pub const STATE_BYTES: usize = 7326;
+pub const STATE_BYTES: usize = 5278;
 
 /// Words of a reply in a lent buffer: status, sixteen words, next thread,
 /// ended waits.
@@ -153,23 +153,17 @@ impl Board {
     /// ```
     pub fn run(&mut self, tape: &[u8], most: u32) -> Run {
         let mut words = vec![0; REPLY_WORDS * wanted(tape, most)];
-        match self.run_into(tape, most, &mut words) {
-            (Status::TablesUnsound, carried) => Run {
-                status: Status::TablesUnsound,
-                replies: vec![Reply::UNSOUND; carried as usize],
-            },
-            (status, carried) => {
-                let (replies, _) = words.as_chunks::<REPLY_WORDS>();
-                let carried = &replies[..carried as usize];
-                Run { status, replies: carried.iter().map(Reply::from_words).collect() }
-            }
-        }
+        let (status, carried) = self.run_into(tape, most, &mut words);
+        let (replies, _) = words.as_chunks::<REPLY_WORDS>();
+        let carried = &replies[..carried as usize];
+        Run { status, replies: carried.iter().map(Reply::from_words).collect() }
     }
 
     /// `run` with the replies written into a lent buffer, [`REPLY_WORDS`]
     /// words a record. Gives the run's status and how many records were
     /// carried out; a buffer that is too short is a `SizeError`, and nothing
-    /// is carried out.
+    /// is carried out. On unsound tables each record is answered with
+    /// `TablesUnsound`.
     #[inline]
     pub fn run_into(&mut self, tape: &[u8], most: u32, replies: &mut [u32]) -> (Status, u32) {
         let run = library::run(&mut self.state[..], tape, most, replies);

@@ -55,6 +55,7 @@ pub struct ThreadRecord {
 #[derive(Clone, PartialEq, Eq, Debug)]
 pub struct Held {
     pub status: u32,
+    /// Zero while it waits to send: the block has one place for both.
     pub words: [u32; 16],
     /// Waits on a queue to send.
     pub sending: bool,
@@ -64,7 +65,7 @@ pub struct Held {
     pub request: u32,
     /// Option of the flags wait.
     pub option: u8,
-    /// The message of a waiting sender.
+    /// The message of a waiting sender, zero of any other thread.
     pub message: [u32; 16],
 }
 
@@ -198,14 +199,18 @@ impl Reader<'_> {
     }
 
     fn held(&mut self) -> Held {
+        let status = self.word();
+        let held = self.words();
+        let sending = self.flag();
+        let (words, message) = if sending { ([0; 16], held) } else { (held, [0; 16]) };
         Held {
-            status: self.word(),
-            words: self.words(),
-            sending: self.flag(),
+            status,
+            words,
+            sending,
             front: self.flag(),
             request: self.word(),
             option: self.byte(),
-            message: self.words(),
+            message,
         }
     }
 

@@ -12,11 +12,11 @@ const NOBODY: u32 = 32;
 /// Where tables stand in the block.
 const THREADS: usize = 34;
 const HELD: usize = 386;
-const SEMAPHORES: usize = 4834;
-const QUEUES: usize = 4914;
-const GROUPS: usize = 6994;
-const POOLS: usize = 7034;
-const CLOCK: usize = 7322;
+const SEMAPHORES: usize = 2786;
+const QUEUES: usize = 2866;
+const GROUPS: usize = 4946;
+const POOLS: usize = 4986;
+const CLOCK: usize = 5274;
 
 /// What is lent, with guards before and behind.
 #[derive(Clone, PartialEq)]
@@ -119,9 +119,16 @@ fn assert_unsound(at: usize, value: u8) {
     assert_eq!(put(lent.block(STATE_BYTES)), unsound, "byte {at}: {value}");
     let unknown = library::call(lent.block(STATE_BYTES), 0, 9, [0; 4], &[]);
     assert_eq!(unknown, unsound, "byte {at}: {value}");
+    assert!(lent == before, "byte {at}: bytes changed");
     let run = lent.run(STATE_BYTES, &tape(), 2, 2 * REPLY_WORDS);
     assert_eq!(run, refused_run(Status::TablesUnsound, 2), "byte {at}: {value}");
-    assert!(lent == before, "byte {at}: bytes changed");
+    let mut expected = before;
+    for reply in expected.replies[GUARD..].chunks_mut(REPLY_WORDS).take(2) {
+        reply.fill(0);
+        reply[0] = Status::TablesUnsound.number();
+        reply[REPLY_WORDS - 2] = NOBODY;
+    }
+    assert!(lent == expected, "byte {at}: other words than the replies changed");
     assert_board_unsound(lent.block(STATE_BYTES));
 }
 
@@ -139,7 +146,7 @@ fn assert_board_unsound(block: &[u8]) {
 /// Where the flags of the block stand.
 fn flags() -> Vec<usize> {
     let threads = (0..32).flat_map(|thread| [0, 4, 5].map(|flag| THREADS + 11 * thread + flag));
-    let held = (0..32).flat_map(|thread| [68, 69].map(|flag| HELD + 139 * thread + flag));
+    let held = (0..32).flat_map(|thread| [68, 69].map(|flag| HELD + 75 * thread + flag));
     let semaphores = (0..16).map(|number| SEMAPHORES + 5 * number);
     let queues = (0..8).map(|number| QUEUES + 260 * number);
     let groups = (0..8).map(|number| GROUPS + 5 * number);

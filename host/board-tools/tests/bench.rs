@@ -82,7 +82,7 @@ fn other_tables_or_results_are_found() {
     // The clock before a record that reads it.
     let mut snapshots = Snapshots::of(&tape);
     let reads = tape.records.iter().position(|record| record.call == 13).unwrap();
-    snapshots.blocks[reads][7322] ^= 1;
+    snapshots.blocks[reads][5274] ^= 1;
     let found = agreement::check(&tape, &snapshots).unwrap_err();
     assert_eq!(found, format!("record {reads}: run1 answers otherwise than `step`"));
 }

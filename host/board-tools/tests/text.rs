@@ -18,7 +18,7 @@ fn assert_round_trip(tape: &Tape) {
 }
 
 #[test]
-fn the_example_of_the_scope_paper() {
+fn the_first_sample_tape() {
     let text = "startup tx_thread_create thread=0 priority=10 threshold=10 start=1\n\
                 startup tx_semaphore_create semaphore=0 count=0\n\
                 thread tx_semaphore_get semaphore=0 wait=none\n";

@@ -2,7 +2,7 @@
 
 use std::fmt;
 
-/// A status number. The `0x1xx` ones are house statuses.
+/// A status number. Those from `0x100` on are this library's own.
 #[derive(Clone, Copy, PartialEq, Eq, Hash, Debug, Default)]
 pub struct Status(pub u32);
 
@@ -38,15 +38,15 @@ impl Status {
     pub const NOT_DONE: Status = Status(0x20);
     pub const CEILING_EXCEEDED: Status = Status(0x21);
     pub const INVALID_CEILING: Status = Status(0x22);
-    /// House: the tables are unsound.
+    /// The tables are unsound.
     pub const UNSOUND: Status = Status(0x100);
-    /// House: the caller now waits or sleeps.
+    /// The caller now waits or sleeps.
     pub const WAITING: Status = Status(0x101);
-    /// House: a call by a thread while no thread runs.
+    /// A call by a thread while no thread runs.
     pub const NOBODY_RUNS: Status = Status(0x102);
-    /// House: the tape is refused.
+    /// The tape is refused.
     pub const TAPE_REFUSED: Status = Status(0x103);
-    /// House: call number or caller kind unknown.
+    /// Call number or caller kind unknown.
     pub const UNKNOWN_CALL: Status = Status(0x104);
 
     /// Whether the call was carried out, as opposed to refused.
@@ -55,7 +55,7 @@ impl Status {
         matches!(self, Status::SUCCESS | Status::SUSPEND_LIFTED | Status::WAITING)
     }
 
-    /// ThreadX's name, or the house name. `call` settles 0x10, which
+    /// ThreadX's name, or this library's own. `call` settles 0x10, which
     /// ThreadX uses twice: thread create's start error and "no memory".
     pub fn name(self, call: u32) -> &'static str {
         match self.0 {

@@ -1,4 +1,4 @@
-//! The bench cases of the scope paper.
+//! The worked cases of docs/RULES.md, chapter 15.
 
 mod common;
 use common::*;

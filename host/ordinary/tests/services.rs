@@ -1,4 +1,4 @@
-//! What the services do, one reading of the papers a test.
+//! What the services do, one rule a test.
 
 mod common;
 use common::*;

@@ -7,7 +7,7 @@ fn record(call: u32, caller: u32, args: [u32; 4]) -> Record {
     Record { call, caller, args }
 }
 
-/// The example tape of the scope paper.
+/// The tape `tapes/example.tape`.
 fn example() -> Tape {
     Tape {
         records: vec![

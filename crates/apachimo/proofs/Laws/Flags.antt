@@ -8,7 +8,7 @@ use lib.ListN.{length}
 use borrow.Author.Needs.{needs}
 use Rattle.lines.specs.Logic.{allBelow}
 use Rattle.lines.proofs.Laws.Logic.{all-more}
-use Rattle.apachimo.specs.State.{stateBytes}
+use Rattle.apachimo.specs.Layout.{stateBytes}
 
 -- whether p holds of the first i of n records of the block b is known
 pub record Tested (b : List ℕ) (p : ℕ → Bool) (n : ℕ) (fit : Bool) (i : ℕ) : Type 0 where

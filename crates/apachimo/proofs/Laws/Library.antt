@@ -9,7 +9,7 @@ use lib.ListN.{length}
 use lib.Dec.{eqb}
 use borrow.Author.Tests.{eqb-true}
 use Rattle.lines.specs.Logic.{if_then_else_}
-use Rattle.apachimo.specs.State.{stateBytes}
+use Rattle.apachimo.specs.Layout.{stateBytes}
 use Rattle.apachimo.specs.Library.{blockRefusal, runRefusal}
 
 -- where a test fails, a reason other than 0 is given

@@ -2,9 +2,9 @@
 use mathlib.Core.Path.{_≡_, refl, sym, ap, _∙_}
 use mathlib.Core.List.{List, [], _∷_, _++_, map, append-assoc, append-nil}
 use mathlib.Core.Bool.{Bool, true, false}
-use Prim.Native.Nat.{ℕ, zero, suc, _+_, _*_, _/_, _%_, _<_}
+use Prim.Native.Nat.{ℕ, zero, suc, _+_, _-_, _*_, _/_, _<_}
 use native.Mathlib.Omega.{arith}
-use native.Mathlib.Nat.{mul-suc, div-add-mod, div-div-eq-div-mul, div-lt-iff-lt-mul, mod-lt, mod-eq-of-lt, not-suc-le-zero}
+use native.Mathlib.Nat.{mul-suc, not-suc-le-zero}
 use lib.ListN.{length, take, drop, getD, length-append, length-drop, List·getD-append}
 use lib.Dec.{eqb, leb}
 use lib.Seq.{take-all, take-at, drop-at, drop-drop, drop-append-le, getD-drop}
@@ -14,23 +14,15 @@ use Rattle.scheduler.specs.declared.thread.Thread.{Thread}
 use Rattle.scheduler.specs.declared.Scheduler.{Scheduler}
 use Rattle.calls.specs.declared.held.Held.{Held}
 use Rattle.kernel.specs.declared.Kernel.{Kernel}
-use Rattle.apachimo.specs.Blocks.{part, byteAt, wordOf, tableOf, wordsOf, flagByte, wordBytes, allBytes}
-use Rattle.apachimo.specs.State.{stateBytes, threadOf, heldOf, semaphoreOf, queueOf, groupOf, poolOf, schedulerOf, kernelOf, flagb, threadFlagsb, semaphoreFlagsb, queueFlagsb, poolFlagsb, flagsFitb}
-use Rattle.apachimo.specs.Bytes.{threadBytes, heldBytes, flaggedBytes, semaphoreBytes, groupBytes, queueBytes, poolBytes, schedulerBytes, objectBytes, bytesOf}
-use Rattle.apachimo.specs.Restored.{Byte, Half, Word, All, Array, ThreadFits, HeldFits, SemaphoreFits, QueueFits, GroupFits, PoolFits, SchedulerFits, Fits, BlockClaims}
+use Rattle.words.specs.Words.{Byte, Word, wordSize, wordBytes, halfBytes}
+use Rattle.words.proofs.Laws.Words.{word-spelled, half-spelled, low-byte}
+use Rattle.apachimo.specs.Blocks.{part, byteAt, wordOf, halfOf, tableOf, wordsOf, flagByte, allBytes}
+use Rattle.apachimo.specs.Layout.{clockAt, flaggedCreated, flaggedSize, groupCount, groupsAt, heldAt, heldFront, heldSending, heldSize, heldWords, listCount, poolCount, poolCreated, poolSize, poolsAt, queueCount, queueCreated, queueSize, queuesAt, schedulerAt, schedulerIds, schedulerLen, schedulerSize, schedulerThreads, semaphoreCount, semaphoresAt, stateBytes, storeCount, storeSize, threadCount, threadCreated, threadMarked, threadSize, threadSuspending, threadsAt, wordCount, wordsSize}
+use Rattle.apachimo.specs.State.{threadOf, heldOf, semaphoreOf, queueOf, groupOf, poolOf, schedulerOf, kernelOf, flagb, threadFlagsb, semaphoreFlagsb, queueFlagsb, poolFlagsb, flagsFitb}
+use Rattle.apachimo.specs.Bytes.{threadBytes, heldBytes, flaggedBytes, semaphoreBytes, groupBytes, queueBytes, poolBytes, schedulerBytes, bytesOf}
+use Rattle.apachimo.specs.Restored.{All, Array, ThreadFits, HeldFits, SemaphoreFits, QueueFits, GroupFits, PoolFits, SchedulerFits, Fits, BlockClaims}
 
--- ---- numbers and flags
--- above the lower bytes of a number that fits there is one byte
-top-byte : (x c : ℕ) → 0 < c → x < 0x100 * c → x / c % 0x100 ≡ x / c
-top-byte x c p h = mod-eq-of-lt (div-lt-iff-lt-mul {k = c} p .1 h)
-
--- two bytes, as a pool's block is written
-half-kept : (x : ℕ) → Half x → x % 0x100 + 0x100 * (x / 0x100 % 0x100) ≡ x
-half-kept x h =
-    let a = div-add-mod x 0x100 in
-    let d = top-byte x 0x100 (omega arith) h in
-    omega (arith, a, d)
-
+-- ---- flags and bytes
 -- a flag is read as it was written, and is 0 or 1
 flag-kept : (f : Bool) → eqb (flagByte f) 1 ≡ f
 unfolding flagByte
@@ -46,10 +38,6 @@ flag-byte : (f : Bool) → Byte (flagByte f)
 unfolding flagByte
 flag-byte true = omega arith
 flag-byte false = omega arith
-
--- a byte of a number
-low-byte : (x : ℕ) → Byte (x % 0x100)
-low-byte x = mod-lt x (omega arith)
 
 bytes-append : (xs ys : List ℕ) → All Byte xs → All Byte ys → All Byte (xs ++ ys)
 bytes-append [] ys f g = g
@@ -155,23 +143,16 @@ module _ {A : Type 0} {write : A → List ℕ} {read : List ℕ → A} {size : �
     table-flags n xs a f e i l = flags-fit xs a i (f .each) e (let s = f .size in omega (arith, s, l))
 
 -- ---- records
-word : Format wordBytes wordOf 4 Word
+word : Format wordBytes wordOf wordSize Word
 unfolding wordOf wordBytes
 word =
     record {
       sized = λ x h. refl;
-      kept = λ x h.
-          let a = div-add-mod x 0x100 in
-          let b = div-add-mod (x / 0x100) 0x100 in
-          let c = div-add-mod (x / 0x1_0000) 0x100 in
-          let p : x / 0x100 / 0x100 ≡ x / 0x1_0000 = div-div-eq-div-mul x 0x100 0x100 in
-          let q : x / 0x1_0000 / 0x100 ≡ x / 0x100_0000 = div-div-eq-div-mul x 0x1_0000 0x100 in
-          let d = top-byte x 0x100_0000 (omega arith) h in
-          omega (arith, a, b, c, d, p, q);
+      kept = word-spelled;
       bytes = λ x h. (low-byte x, (low-byte (x / 0x100), (low-byte (x / 0x1_0000), (low-byte (x / 0x100_0000), tt))));
     }
 
-thread : Format threadBytes threadOf 11 ThreadFits
+thread : Format threadBytes threadOf threadSize ThreadFits
 unfolding threadOf threadBytes wordBytes part
 thread =
     record {
@@ -190,7 +171,7 @@ thread =
       bytes = λ th f. (flag-byte (th .created), (f .state, (f .priority, (f .threshold, (flag-byte (th .marked), (flag-byte (th .suspending), (f .object, word .bytes (th .ticks) (f .ticks))))))));
     }
 
-semaphore : Format semaphoreBytes semaphoreOf 5 SemaphoreFits
+semaphore : Format semaphoreBytes semaphoreOf flaggedSize SemaphoreFits
 unfolding semaphoreOf flaggedBytes wordBytes part
 semaphore =
     record {
@@ -199,7 +180,7 @@ semaphore =
       bytes = λ x f. (flag-byte (x .created), word .bytes (x .count) (f .count));
     }
 
-group : Format groupBytes groupOf 5 GroupFits
+group : Format groupBytes groupOf flaggedSize GroupFits
 unfolding groupOf flaggedBytes wordBytes part
 group =
     record {
@@ -208,53 +189,53 @@ group =
       bytes = λ g f. (flag-byte (g .created), word .bytes (g .flags) (f .flags));
     }
 
-queue : Format queueBytes queueOf 260 QueueFits
+queue : Format queueBytes queueOf queueSize QueueFits
 unfolding queueOf queueBytes part
 queue =
     record {
-      sized = λ q f. let s = table word 64 .sized (q .store) (f .store) in omega (arith, s);
+      sized = λ q f. let s = table word storeCount .sized (q .store) (f .store) in omega (arith, s);
       kept = λ q f.
-          let s = table word 64 .sized (q .store) (f .store) in
-          let t = take-all 256 (allBytes wordBytes (q .store)) (omega (arith, s)) in
-          λ i. record { created = flag-kept (q .created) i; words = q .words; storage = q .storage; stored = q .stored; store = (ap (wordsOf 64) t ∙ table word 64 .kept (q .store) (f .store)) i };
-      bytes = λ q f. (flag-byte (q .created), (f .words, (f .storage, (f .stored, table word 64 .bytes (q .store) (f .store)))));
+          let s = table word storeCount .sized (q .store) (f .store) in
+          let t = take-all storeSize (allBytes wordBytes (q .store)) (omega (arith, s)) in
+          λ i. record { created = flag-kept (q .created) i; words = q .words; storage = q .storage; stored = q .stored; store = (ap (wordsOf storeCount) t ∙ table word storeCount .kept (q .store) (f .store)) i };
+      bytes = λ q f. (flag-byte (q .created), (f .words, (f .storage, (f .stored, table word storeCount .bytes (q .store) (f .store)))));
     }
 
-pool : Format poolBytes poolOf 72 PoolFits
-unfolding poolOf poolBytes wordBytes part
+pool : Format poolBytes poolOf poolSize PoolFits
+unfolding poolOf poolBytes wordBytes halfBytes halfOf part
 pool =
     record {
       sized = λ p f. let s = f .list .size in omega (arith, s);
       kept = λ p f.
           let s = f .list .size in
-          let t = take-all 64 (p .list) (omega (arith, s)) in
-          λ i. record { created = flag-kept (p .created) i; block = half-kept (p .block) (f .block) i; total = word .kept (p .total) (f .total) i; free = p .free; list = t i };
+          let t = take-all listCount (p .list) (omega (arith, s)) in
+          λ i. record { created = flag-kept (p .created) i; block = half-spelled (p .block) (f .block) i; total = word .kept (p .total) (f .total) i; free = p .free; list = t i };
       bytes = λ p f.
           (flag-byte (p .created), (low-byte (p .block), (low-byte (p .block / 0x100), bytes-append (wordBytes (p .total)) (p .free ∷ p .list) (word .bytes (p .total) (f .total)) (f .free, f .list .each))));
     }
 
 -- what lies behind the held words
 abbrev behindWords : Held → List ℕ
-behindWords h = flagByte (h .sending) ∷ flagByte (h .front) ∷ (wordBytes (h .request) ++ (h .option ∷ allBytes wordBytes (h .message)))
+behindWords h = flagByte (h .sending) ∷ flagByte (h .front) ∷ (wordBytes (h .request) ++ (h .option ∷ []))
 
 -- where the parts of what a thread holds lie
 module _ (h : Held) (f : HeldFits h) where
-  words-from : drop 4 (heldBytes h) ≡ allBytes wordBytes (h .words) ++ behindWords h
+  words-from : drop heldWords (heldBytes h) ≡ allBytes wordBytes (h .words) ++ behindWords h
   unfolding heldBytes wordBytes
   words-from = refl
 
-  flags-from : drop 68 (heldBytes h) ≡ behindWords h
-  flags-from = behind (table word 16) (heldBytes h) (behindWords h) 4 (h .words) (f .words) words-from
+  flags-from : drop heldSending (heldBytes h) ≡ behindWords h
+  flags-from = behind (table word wordCount) (heldBytes h) (behindWords h) heldWords (h .words) (f .words) words-from
 
-  message-from : drop 75 (heldBytes h) ≡ allBytes wordBytes (h .message)
+  held-size : length (heldBytes h) ≡ heldSize
   unfolding wordBytes
-  message-from = drop-on (heldBytes h) 68 (take 7 (behindWords h)) (allBytes wordBytes (h .message)) 7 flags-from refl
+  held-size = length-from (heldBytes h) heldSending (behindWords h) (heldSize - heldSending) flags-from refl (omega arith)
 
-  sending-byte : byteAt (heldBytes h) 68 ≡ flagByte (h .sending)
-  sending-byte = byte-on (heldBytes h) 68 (behindWords h) 0 flags-from
+  sending-byte : byteAt (heldBytes h) heldSending ≡ flagByte (h .sending)
+  sending-byte = byte-on (heldBytes h) heldSending (behindWords h) 0 flags-from
 
-  front-byte : byteAt (heldBytes h) 69 ≡ flagByte (h .front)
-  front-byte = byte-on (heldBytes h) 68 (behindWords h) 1 flags-from
+  front-byte : byteAt (heldBytes h) heldFront ≡ flagByte (h .front)
+  front-byte = byte-on (heldBytes h) heldSending (behindWords h) 1 flags-from
 
   held-kept : heldOf (heldBytes h) ≡ h
   unfolding heldOf heldBytes wordBytes part
@@ -262,24 +243,23 @@ module _ (h : Held) (f : HeldFits h) where
       λ i.
       record {
         status = word .kept (h .status) (f .status) i;
-        words = here (table word 16) (heldBytes h) (behindWords h) 4 (h .words) (f .words) words-from i;
+        words = here (table word wordCount) (heldBytes h) (behindWords h) heldWords (h .words) (f .words) words-from i;
         sending = (ap (λ (x : ℕ). eqb x 1) sending-byte ∙ flag-kept (h .sending)) i;
         front = (ap (λ (x : ℕ). eqb x 1) front-byte ∙ flag-kept (h .front)) i;
-        request = (ap wordOf (part-on (heldBytes h) 68 (behindWords h) 2 4 flags-from) ∙ word .kept (h .request) (f .request)) i;
-        option = byte-on (heldBytes h) 68 (behindWords h) 6 flags-from i;
-        message = here (table word 16) (heldBytes h) [] 75 (h .message) (f .message) (message-from ∙ sym (append-nil _)) i;
+        request = (ap wordOf (part-on (heldBytes h) heldSending (behindWords h) 2 4 flags-from) ∙ word .kept (h .request) (f .request)) i;
+        option = byte-on (heldBytes h) heldSending (behindWords h) 6 flags-from i;
       }
 
-held : Format heldBytes heldOf 139 HeldFits
+held : Format heldBytes heldOf heldSize HeldFits
 unfolding heldBytes
 held =
     record {
-      sized = λ h f. length-from (heldBytes h) 75 (allBytes wordBytes (h .message)) 64 (message-from h f) (table word 16 .sized (h .message) (f .message)) (omega arith);
+      sized = held-size;
       kept = held-kept;
       bytes = λ h f.
           bytes-append (wordBytes (h .status)) _ (word .bytes (h .status) (f .status))
-          (bytes-append (allBytes wordBytes (h .words)) _ (table word 16 .bytes (h .words) (f .words))
-          (flag-byte (h .sending), (flag-byte (h .front), bytes-append (wordBytes (h .request)) _ (word .bytes (h .request) (f .request)) (f .option, table word 16 .bytes (h .message) (f .message)))));
+          (bytes-append (allBytes wordBytes (h .words)) _ (table word wordCount .bytes (h .words) (f .words))
+          (flag-byte (h .sending), (flag-byte (h .front), bytes-append (wordBytes (h .request)) _ (word .bytes (h .request) (f .request)) (f .option, tt))));
     }
 
 -- ---- the scheduler
@@ -288,34 +268,34 @@ abbrev behindIds : Scheduler → List ℕ
 behindIds s = s .order .len ∷ allBytes threadBytes (s .threads)
 
 module _ (s : Scheduler) (f : SchedulerFits s) where
-  ids-from : drop 1 (schedulerBytes s) ≡ s .order .ids ++ behindIds s
+  ids-from : drop schedulerIds (schedulerBytes s) ≡ s .order .ids ++ behindIds s
   unfolding schedulerBytes
   ids-from = refl
 
-  len-from : drop 33 (schedulerBytes s) ≡ behindIds s
-  len-from = drop-on (schedulerBytes s) 1 (s .order .ids) (behindIds s) 32 ids-from (f .ids .size)
+  len-from : drop schedulerLen (schedulerBytes s) ≡ behindIds s
+  len-from = drop-on (schedulerBytes s) schedulerIds (s .order .ids) (behindIds s) threadCount ids-from (f .ids .size)
 
-  threads-from : drop 34 (schedulerBytes s) ≡ allBytes threadBytes (s .threads)
-  threads-from = drop-on (schedulerBytes s) 33 (s .order .len ∷ []) (allBytes threadBytes (s .threads)) 1 len-from refl
+  threads-from : drop schedulerThreads (schedulerBytes s) ≡ allBytes threadBytes (s .threads)
+  threads-from = drop-on (schedulerBytes s) schedulerLen (s .order .len ∷ []) (allBytes threadBytes (s .threads)) 1 len-from refl
 
-  threads-whole : drop 34 (schedulerBytes s) ≡ allBytes threadBytes (s .threads) ++ []
+  threads-whole : drop schedulerThreads (schedulerBytes s) ≡ allBytes threadBytes (s .threads) ++ []
   threads-whole = threads-from ∙ sym (append-nil _)
 
   scheduler-kept : schedulerOf (schedulerBytes s) ≡ s
   unfolding schedulerOf schedulerBytes
   scheduler-kept =
-      let ids = part-here (schedulerBytes s) 1 (s .order .ids) (behindIds s) 32 ids-from (f .ids .size) in
-      let len = byte-on (schedulerBytes s) 33 (behindIds s) 0 len-from in
-      let threads = here (table thread 32) (schedulerBytes s) [] 34 (s .threads) (f .threads) threads-whole in
+      let ids = part-here (schedulerBytes s) schedulerIds (s .order .ids) (behindIds s) threadCount ids-from (f .ids .size) in
+      let len = byte-on (schedulerBytes s) schedulerLen (behindIds s) 0 len-from in
+      let threads = here (table thread threadCount) (schedulerBytes s) [] schedulerThreads (s .threads) (f .threads) threads-whole in
       λ i. record { running = s .running; order = record { ids = ids i; len = len i }; threads = threads i }
 
-scheduler : Format schedulerBytes schedulerOf 386 SchedulerFits
+scheduler : Format schedulerBytes schedulerOf schedulerSize SchedulerFits
 unfolding schedulerBytes
 scheduler =
     record {
-      sized = λ s f. length-from (schedulerBytes s) 34 (allBytes threadBytes (s .threads)) 352 (threads-from s f) (table thread 32 .sized (s .threads) (f .threads)) (omega arith);
+      sized = λ s f. length-from (schedulerBytes s) schedulerThreads (allBytes threadBytes (s .threads)) (threadSize * threadCount) (threads-from s f) (table thread threadCount .sized (s .threads) (f .threads)) (omega arith);
       kept = scheduler-kept;
-      bytes = λ s f. (f .running, bytes-append (s .order .ids) _ (f .ids .each) (f .len, table thread 32 .bytes (s .threads) (f .threads)));
+      bytes = λ s f. (f .running, bytes-append (s .order .ids) _ (f .ids .each) (f .len, table thread threadCount .bytes (s .threads) (f .threads)));
     }
 
 -- ---- the kernel: what lies in its block from each table on
@@ -335,99 +315,99 @@ abbrev heldOn : Kernel → List ℕ
 heldOn k = allBytes heldBytes (k .held) ++ semaphoresOn k
 
 module _ (k : Kernel) (f : Fits k) where
-  scheduler-from : drop 0 (bytesOf k) ≡ schedulerBytes (k .scheduler) ++ heldOn k
-  unfolding bytesOf objectBytes
+  scheduler-from : drop schedulerAt (bytesOf k) ≡ schedulerBytes (k .scheduler) ++ heldOn k
+  unfolding bytesOf
   scheduler-from = refl
 
-  held-from : drop 386 (bytesOf k) ≡ heldOn k
-  held-from = behind scheduler (bytesOf k) (heldOn k) 0 (k .scheduler) (f .scheduler) scheduler-from
+  held-from : drop heldAt (bytesOf k) ≡ heldOn k
+  held-from = behind scheduler (bytesOf k) (heldOn k) schedulerAt (k .scheduler) (f .scheduler) scheduler-from
 
-  semaphores-from : drop 4834 (bytesOf k) ≡ semaphoresOn k
-  semaphores-from = behind (table held 32) (bytesOf k) (semaphoresOn k) 386 (k .held) (f .held) held-from
+  semaphores-from : drop semaphoresAt (bytesOf k) ≡ semaphoresOn k
+  semaphores-from = behind (table held threadCount) (bytesOf k) (semaphoresOn k) heldAt (k .held) (f .held) held-from
 
-  queues-from : drop 4914 (bytesOf k) ≡ queuesOn k
-  queues-from = behind (table semaphore 16) (bytesOf k) (queuesOn k) 4834 (k .semaphores) (f .semaphores) semaphores-from
+  queues-from : drop queuesAt (bytesOf k) ≡ queuesOn k
+  queues-from = behind (table semaphore semaphoreCount) (bytesOf k) (queuesOn k) semaphoresAt (k .semaphores) (f .semaphores) semaphores-from
 
-  groups-from : drop 6994 (bytesOf k) ≡ groupsOn k
-  groups-from = behind (table queue 8) (bytesOf k) (groupsOn k) 4914 (k .queues) (f .queues) queues-from
+  groups-from : drop groupsAt (bytesOf k) ≡ groupsOn k
+  groups-from = behind (table queue queueCount) (bytesOf k) (groupsOn k) queuesAt (k .queues) (f .queues) queues-from
 
-  pools-from : drop 7034 (bytesOf k) ≡ poolsOn k
-  pools-from = behind (table group 8) (bytesOf k) (poolsOn k) 6994 (k .groups) (f .groups) groups-from
+  pools-from : drop poolsAt (bytesOf k) ≡ poolsOn k
+  pools-from = behind (table group groupCount) (bytesOf k) (poolsOn k) groupsAt (k .groups) (f .groups) groups-from
 
-  clock-from : drop 7322 (bytesOf k) ≡ wordBytes (k .clock)
-  clock-from = behind (table pool 4) (bytesOf k) (wordBytes (k .clock)) 7034 (k .pools) (f .pools) pools-from
+  clock-from : drop clockAt (bytesOf k) ≡ wordBytes (k .clock)
+  clock-from = behind (table pool poolCount) (bytesOf k) (wordBytes (k .clock)) poolsAt (k .pools) (f .pools) pools-from
 
   kernel-size : length (bytesOf k) ≡ stateBytes
-  kernel-size = length-from (bytesOf k) 7322 (wordBytes (k .clock)) 4 clock-from (word .sized (k .clock) (f .clock)) (omega arith)
+  kernel-size = length-from (bytesOf k) clockAt (wordBytes (k .clock)) wordSize clock-from (word .sized (k .clock) (f .clock)) (omega arith)
 
   kernel-kept : kernelOf (bytesOf k) ≡ k
   unfolding kernelOf
   kernel-kept =
       λ i.
       record {
-        scheduler = here scheduler (bytesOf k) (heldOn k) 0 (k .scheduler) (f .scheduler) scheduler-from i;
-        held = here (table held 32) (bytesOf k) (semaphoresOn k) 386 (k .held) (f .held) held-from i;
-        semaphores = here (table semaphore 16) (bytesOf k) (queuesOn k) 4834 (k .semaphores) (f .semaphores) semaphores-from i;
-        queues = here (table queue 8) (bytesOf k) (groupsOn k) 4914 (k .queues) (f .queues) queues-from i;
-        groups = here (table group 8) (bytesOf k) (poolsOn k) 6994 (k .groups) (f .groups) groups-from i;
-        pools = here (table pool 4) (bytesOf k) (wordBytes (k .clock)) 7034 (k .pools) (f .pools) pools-from i;
-        clock = here word (bytesOf k) [] 7322 (k .clock) (f .clock) (clock-from ∙ sym (append-nil _)) i;
+        scheduler = here scheduler (bytesOf k) (heldOn k) schedulerAt (k .scheduler) (f .scheduler) scheduler-from i;
+        held = here (table held threadCount) (bytesOf k) (semaphoresOn k) heldAt (k .held) (f .held) held-from i;
+        semaphores = here (table semaphore semaphoreCount) (bytesOf k) (queuesOn k) semaphoresAt (k .semaphores) (f .semaphores) semaphores-from i;
+        queues = here (table queue queueCount) (bytesOf k) (groupsOn k) queuesAt (k .queues) (f .queues) queues-from i;
+        groups = here (table group groupCount) (bytesOf k) (poolsOn k) groupsAt (k .groups) (f .groups) groups-from i;
+        pools = here (table pool poolCount) (bytesOf k) (wordBytes (k .clock)) poolsAt (k .pools) (f .pools) pools-from i;
+        clock = here word (bytesOf k) [] clockAt (k .clock) (f .clock) (clock-from ∙ sym (append-nil _)) i;
       }
 
   kernel-bytes : All Byte (bytesOf k)
-  unfolding bytesOf objectBytes
+  unfolding bytesOf
   kernel-bytes =
       bytes-append (schedulerBytes (k .scheduler)) _ (scheduler .bytes (k .scheduler) (f .scheduler))
-      (bytes-append (allBytes heldBytes (k .held)) _ (table held 32 .bytes (k .held) (f .held))
-      (bytes-append (allBytes semaphoreBytes (k .semaphores)) _ (table semaphore 16 .bytes (k .semaphores) (f .semaphores))
-      (bytes-append (allBytes queueBytes (k .queues)) _ (table queue 8 .bytes (k .queues) (f .queues))
-      (bytes-append (allBytes groupBytes (k .groups)) _ (table group 8 .bytes (k .groups) (f .groups))
-      (bytes-append (allBytes poolBytes (k .pools)) _ (table pool 4 .bytes (k .pools) (f .pools)) (word .bytes (k .clock) (f .clock)))))))
+      (bytes-append (allBytes heldBytes (k .held)) _ (table held threadCount .bytes (k .held) (f .held))
+      (bytes-append (allBytes semaphoreBytes (k .semaphores)) _ (table semaphore semaphoreCount .bytes (k .semaphores) (f .semaphores))
+      (bytes-append (allBytes queueBytes (k .queues)) _ (table queue queueCount .bytes (k .queues) (f .queues))
+      (bytes-append (allBytes groupBytes (k .groups)) _ (table group groupCount .bytes (k .groups) (f .groups))
+      (bytes-append (allBytes poolBytes (k .pools)) _ (table pool poolCount .bytes (k .pools) (f .pools)) (word .bytes (k .clock) (f .clock)))))))
 
   -- ---- its flags
   -- the threads lie at the end of the scheduler
-  threads-in : drop 34 (bytesOf k) ≡ allBytes threadBytes (k .scheduler .threads) ++ heldOn k
-  unfolding bytesOf objectBytes
+  threads-in : drop threadsAt (bytesOf k) ≡ allBytes threadBytes (k .scheduler .threads) ++ heldOn k
+  unfolding bytesOf
   threads-in =
       let s = scheduler .sized (k .scheduler) (f .scheduler) in
-      drop-append-le 34 (schedulerBytes (k .scheduler)) (heldOn k) (omega (arith, s))
+      drop-append-le threadsAt (schedulerBytes (k .scheduler)) (heldOn k) (omega (arith, s))
       ∙ ap (λ (l : List ℕ). l ++ heldOn k) (threads-from (k .scheduler) (f .scheduler))
 
   -- flags of threads and of what they hold, by their place in the record
-  thread-flag : (j : ℕ) → j < 11 → ((th : Thread) → ThreadFits th → flagb (threadBytes th) j ≡ true) → (i : ℕ) → i < 32 → flagb (bytesOf k) (34 + j + 11 * i) ≡ true
-  thread-flag j h fits = table-flags thread j h fits (bytesOf k) (heldOn k) 32 (k .scheduler .threads) 34 (f .scheduler .threads) threads-in
+  thread-flag : (j : ℕ) → j < threadSize → ((th : Thread) → ThreadFits th → flagb (threadBytes th) j ≡ true) → (i : ℕ) → i < threadCount → flagb (bytesOf k) (threadsAt + j + threadSize * i) ≡ true
+  thread-flag j h fits = table-flags thread j h fits (bytesOf k) (heldOn k) threadCount (k .scheduler .threads) threadsAt (f .scheduler .threads) threads-in
 
-  held-flag : (j : ℕ) → j < 139 → ((h : Held) → HeldFits h → flagb (heldBytes h) j ≡ true) → (i : ℕ) → i < 32 → flagb (bytesOf k) (386 + j + 139 * i) ≡ true
-  held-flag j h fits = table-flags held j h fits (bytesOf k) (semaphoresOn k) 32 (k .held) 386 (f .held) held-from
+  held-flag : (j : ℕ) → j < heldSize → ((h : Held) → HeldFits h → flagb (heldBytes h) j ≡ true) → (i : ℕ) → i < threadCount → flagb (bytesOf k) (heldAt + j + heldSize * i) ≡ true
+  held-flag j h fits = table-flags held j h fits (bytesOf k) (semaphoresOn k) threadCount (k .held) heldAt (f .held) held-from
 
   threads-flags : threadFlagsb (bytesOf k) ≡ true
   unfolding threadFlagsb threadBytes
   threads-flags =
-      all-in 32 _
+      all-in threadCount _
       (λ i l.
-      let created = thread-flag 0 (omega arith) (λ th g. flag-fits (th .created)) i l in
-      let marked = thread-flag 4 (omega arith) (λ th g. flag-fits (th .marked)) i l in
-      let suspending = thread-flag 5 (omega arith) (λ th g. flag-fits (th .suspending)) i l in
-      let sending = held-flag 68 (omega arith) (λ h g. ap (λ (n : ℕ). leb n 1) (sending-byte h g) ∙ flag-fits (h .sending)) i l in
-      let front = held-flag 69 (omega arith) (λ h g. ap (λ (n : ℕ). leb n 1) (front-byte h g) ∙ flag-fits (h .front)) i l in
+      let created = thread-flag threadCreated (omega arith) (λ th g. flag-fits (th .created)) i l in
+      let marked = thread-flag threadMarked (omega arith) (λ th g. flag-fits (th .marked)) i l in
+      let suspending = thread-flag threadSuspending (omega arith) (λ th g. flag-fits (th .suspending)) i l in
+      let sending = held-flag heldSending (omega arith) (λ h g. ap (λ (n : ℕ). leb n 1) (sending-byte h g) ∙ flag-fits (h .sending)) i l in
+      let front = held-flag heldFront (omega arith) (λ h g. ap (λ (n : ℕ). leb n 1) (front-byte h g) ∙ flag-fits (h .front)) i l in
       and-in _ _ (and-in _ _ (and-in _ _ (and-in _ _ created marked) suspending) sending) front)
 
   semaphores-flags : semaphoreFlagsb (bytesOf k) ≡ true
   unfolding semaphoreFlagsb flaggedBytes
-  semaphores-flags = all-in 16 _ (table-flags semaphore 0 (omega arith) (λ x g. flag-fits (x .created)) (bytesOf k) (queuesOn k) 16 (k .semaphores) 4834 (f .semaphores) semaphores-from)
+  semaphores-flags = all-in semaphoreCount _ (table-flags semaphore flaggedCreated (omega arith) (λ x g. flag-fits (x .created)) (bytesOf k) (queuesOn k) semaphoreCount (k .semaphores) semaphoresAt (f .semaphores) semaphores-from)
 
   queues-flags : queueFlagsb (bytesOf k) ≡ true
   unfolding queueFlagsb queueBytes flaggedBytes
   queues-flags =
-      all-in 8 _
+      all-in queueCount _
       (λ i l.
       and-in _ _
-      (table-flags queue 0 (omega arith) (λ q g. flag-fits (q .created)) (bytesOf k) (groupsOn k) 8 (k .queues) 4914 (f .queues) queues-from i l)
-      (table-flags group 0 (omega arith) (λ g h. flag-fits (g .created)) (bytesOf k) (poolsOn k) 8 (k .groups) 6994 (f .groups) groups-from i l))
+      (table-flags queue queueCreated (omega arith) (λ q g. flag-fits (q .created)) (bytesOf k) (groupsOn k) queueCount (k .queues) queuesAt (f .queues) queues-from i l)
+      (table-flags group flaggedCreated (omega arith) (λ g h. flag-fits (g .created)) (bytesOf k) (poolsOn k) groupCount (k .groups) groupsAt (f .groups) groups-from i l))
 
   pools-flags : poolFlagsb (bytesOf k) ≡ true
   unfolding poolFlagsb poolBytes
-  pools-flags = all-in 4 _ (table-flags pool 0 (omega arith) (λ p g. flag-fits (p .created)) (bytesOf k) (wordBytes (k .clock)) 4 (k .pools) 7034 (f .pools) pools-from)
+  pools-flags = all-in poolCount _ (table-flags pool poolCreated (omega arith) (λ p g. flag-fits (p .created)) (bytesOf k) (wordBytes (k .clock)) poolCount (k .pools) poolsAt (f .pools) pools-from)
 
   kernel-flags : flagsFitb (bytesOf k) ≡ true
   unfolding flagsFitb

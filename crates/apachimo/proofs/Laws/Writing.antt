@@ -98,6 +98,10 @@ module _ {f : List ℕ → List ℕ} {size : ℕ} {b : List ℕ} {n : ℕ} (d : 
   pub last-done : {ys vs : List ℕ} → ys ≡ vs → (k : ℕ) → size ≡ n + k → length ys ≡ length (take k (drop n b)) → take n b ++ (ys ++ drop k (drop n b)) ≡ f vs
   last-done {ys} {vs} e k z q = last-part b _ ys n k (d .long ∙ z) q (d .front ys ∙ ap f e)
 
+  -- nothing is left
+  pub all-done : n ≡ size → b ≡ f []
+  all-done z = sym (take-all n b (let h = d .long in omega (arith, h, z))) ∙ sym (append-nil (take n b)) ∙ d .front []
+
 -- ---- a table that is written: the first i of n records of `size` bytes
 pub record Put {A : Type 0} (write : A → List ℕ) (size n : ℕ) (xs : List A) (b : List ℕ) (i : ℕ) : Type 0 where
   pub within : i ≤ n

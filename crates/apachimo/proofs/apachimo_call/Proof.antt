@@ -2,7 +2,7 @@ use mathlib.Core.Path.{refl, sym, ap, _∙_}
 use borrow.Author.Needs.{needs}
 use borrow.Author.Tests.{eq-eqb, ne-eqb}
 use Rattle.apachimo.specs.Bytes.{bytesOf}
-use Rattle.apachimo.specs.Library.{callReply, callBlock}
+use Rattle.apachimo.specs.Library.{requestOf, callReply, callBlock}
 use Rattle.kernel.specs.Claims.{doneb}
 use Rattle.apachimo.proofs.Laws.Library.{block-sized}
 use Rattle.kernel.specs.declared.Kernel.{Kernel}
@@ -13,18 +13,18 @@ use Rattle.apachimo.proofs.apachimo_call.Statement.{statement}
 use Rattle.apachimo.proofs.apachimo_call.Tie as tie
 
 returns-2 : tie.Need-returns-2
-unfolding callReply callBlock replyOf
+unfolding requestOf callReply callBlock replyOf
 returns-2 c =
     let a = c .before .before .before .before .before .before .before .before .before .before .before .before .before .before .before .before .before .args in
-    let e = c .before .before .before .before .before .before .before .before .before .call .ensures ∙ ap (λ (k : Kernel). call k (a .number) (a .caller) (a .a) (a .b) (a .c) (a .d) (a .messages .now)) (c .before .before .before .before .before .before .before .before .before .before .kernel-of .ensures) in
+    let e = c .before .before .before .before .before .before .before .before .before .call .ensures ∙ ap (λ (k : Kernel). call k (requestOf (a .number) (a .caller) (a .a) (a .b) (a .c) (a .d)) (a .messages .now)) (c .before .before .before .before .before .before .before .before .before .before .kernel-of .ensures) in
     let t = sym (ap (λ (x : Answer). doneb (x .status)) e) ∙ sym (c .before .before .before .before .before .is-done .ensures) ∙ c .before .before .before .before .if2 .taken in
     rw (← c .before .before .before .before .before .before .before .before .before .before .before .before .before .block-refusal .ensures, eq-eqb (c .before .before .before .before .before .before .before .before .before .before .before .before .before .block-refusal .result) 0 (c .before .before .before .before .before .before .before .before .before .before .before .before .if1 .left), t) (ap replyOf e, c .before .before .put-answer .ensures ∙ ap (λ (x : Answer). bytesOf (x .kernel)) e)
 
 returns-3 : tie.Need-returns-3
-unfolding callReply callBlock replyOf
+unfolding requestOf callReply callBlock replyOf
 returns-3 c =
     let a = c .before .before .before .before .before .before .before .before .before .before .before .before .before .args in
-    let e = c .before .before .before .before .before .call .ensures ∙ ap (λ (k : Kernel). call k (a .number) (a .caller) (a .a) (a .b) (a .c) (a .d) (a .messages .now)) (c .before .before .before .before .before .before .kernel-of .ensures) in
+    let e = c .before .before .before .before .before .call .ensures ∙ ap (λ (k : Kernel). call k (requestOf (a .number) (a .caller) (a .a) (a .b) (a .c) (a .d)) (a .messages .now)) (c .before .before .before .before .before .before .kernel-of .ensures) in
     let t = sym (ap (λ (x : Answer). doneb (x .status)) e) ∙ sym (c .before .is-done .ensures) ∙ c .if2 .left in
     rw (← c .before .before .before .before .before .before .before .before .before .block-refusal .ensures, eq-eqb (c .before .before .before .before .before .before .before .before .before .block-refusal .result) 0 (c .before .before .before .before .before .before .before .before .if1 .left), t) (ap replyOf e, refl)
 
@@ -34,7 +34,7 @@ apachimo-call-spec =
     tie.close
     (tie.spec
     (λ c. search needs) (λ c. search needs) (λ c. search needs)
-    (λ c. rw (← c .before .before .block-refusal .ensures, ne-eqb (c .before .before .block-refusal .result) 0 (c .before .if1 .taken)) (c .no-reply .ensures, refl))
+    (λ c. rw (← c .before .before .block-refusal .ensures, ne-eqb (c .before .before .block-refusal .result) 0 (c .before .if1 .taken)) (c .refusal .ensures, refl))
     (λ c κs. block-sized _ (sym (c .before .before .block-refusal .ensures) ∙ c .before .if1 .left))
     (λ c. search needs) (λ c. search needs) (λ c. search needs)
     (λ c κs. block-sized _ (sym (c .before .before .before .before .before .before .before .before .before .before .block-refusal .ensures) ∙ c .before .before .before .before .before .before .before .before .before .if1 .left))

@@ -8,14 +8,21 @@ use Rattle.apachimo.proofs.Laws.Library.{run-sized}
 use Rattle.kernel.specs.declared.Kernel.{Kernel}
 use Rattle.kernel.specs.declared.run.Ran.{Ran}
 use Rattle.kernel.specs.Runs.{ran, ranReplies}
+use Rattle.tape.specs.Replies.{refusal, repliedEach}
+use Rattle.numbers.specs.Numbers.{nobody}
+use Prim.Native.Nat.{ℕ}
 use Rattle.apachimo.proofs.apachimo_run.Statement.{statement}
 use Rattle.apachimo.proofs.apachimo_run.Tie as tie
 
 returns : tie.Need-returns
 unfolding runResult runBlock runReplies
 returns c =
-    let q = sym (c .before .before .run-refusal .ensures) ∙ c .before .if1 .taken in
-    rw q ((λ j. record { status = c .before .if1 .taken j; carried = c .wanted .ensures j }), (refl, refl))
+    let a = c .before .before .before .before .before .before .before .before .before .before .before .before .args in
+    let w = c .before .before .before .before .before .wanted in
+    let t = c .before .before .before .before .before .before .if1 .taken in
+    let q = sym (c .before .before .before .before .before .before .before .run-refusal .ensures) ∙ t in
+    let f = c .before .before .before .refusal .ensures ∙ ap (λ (x : ℕ). refusal x nobody) t in
+    rw q ((λ j. record { status = t j; carried = w .ensures j }), (refl, c .before .before .put-replies .ensures ∙ (λ j. repliedEach (a .replies .now) (w .ensures j) (f j))))
 
 returns-3 : tie.Need-returns-3
 unfolding runResult runBlock runReplies
@@ -42,7 +49,7 @@ unfolding runResult runBlock runReplies
 apachimo-run-spec =
     tie.close
     (tie.spec
-    (λ c. search needs) (λ c. search needs) (λ c. search needs) returns (λ c. search needs)
+    (λ c. search needs) (λ c κs. search needs) (λ c κs. search needs) (λ c κs. search needs) (λ c. search needs) (λ c. search needs) returns (λ c. search needs)
     (λ c. rw (← c .before .before .run-refusal .ensures, ne-eqb (c .before .before .run-refusal .result) 0 (c .if2 .taken), ne-eqb (c .before .before .run-refusal .result) 256 (c .before .if1 .left)) (refl, (refl, refl)))
     (λ c κs. run-sized _ _ _ _ (sym (c .before .before .before .run-refusal .ensures) ∙ c .before .if2 .left))
     (λ c. search needs)

@@ -7,7 +7,7 @@ use ordinary::Tape;
 use std::hint::black_box;
 
 /// Bytes of the kernel's own tables, which go by value.
-pub const TABLES_BYTES: usize = 7480;
+pub const TABLES_BYTES: usize = 5432;
 
 /// Ticks of one side: by round, then by record.
 #[derive(Default)]

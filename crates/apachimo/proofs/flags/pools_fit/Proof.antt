@@ -1,14 +1,15 @@
 use Prim.Native.Nat.{ℕ, _+_, _-_, _*_}
 use Rattle.apachimo.specs.State.{flagb, poolFlagsb}
+use Rattle.apachimo.specs.Layout.{poolCount, poolCreated, poolSize, poolsAt}
 use Rattle.apachimo.proofs.Laws.Flags.{Tested, tests}
 use Rattle.apachimo.proofs.flags.pools_fit.Statement.{statement}
 use Rattle.apachimo.proofs.flags.pools_fit.Tie as tie
 
 abbrev Inv-loop : tie.InvT-loop
-Inv-loop block fit₀ i₀ fit i = Tested block (λ (j : ℕ). flagb block (7034 + 72 * j)) 4 fit i
+Inv-loop block fit₀ i₀ fit i = Tested block (λ (j : ℕ). flagb block (poolsAt + poolCreated + poolSize * j)) poolCount fit i
 
 abbrev μ-loop : tie.MeasureT-loop
-μ-loop block fit₀ i₀ fit i = 4 - i
+μ-loop block fit₀ i₀ fit i = poolCount - i
 
 pub pools-fit-spec : {M : Type 1} → statement M
 unfolding poolFlagsb

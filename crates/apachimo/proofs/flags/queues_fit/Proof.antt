@@ -1,15 +1,16 @@
 use mathlib.Core.Bool.{_&&_}
 use Prim.Native.Nat.{ℕ, _+_, _-_, _*_}
 use Rattle.apachimo.specs.State.{flagb, queueFlagsb}
+use Rattle.apachimo.specs.Layout.{flaggedCreated, flaggedSize, groupsAt, queueCount, queueCreated, queueSize, queuesAt}
 use Rattle.apachimo.proofs.Laws.Flags.{Tested, tests}
 use Rattle.apachimo.proofs.flags.queues_fit.Statement.{statement}
 use Rattle.apachimo.proofs.flags.queues_fit.Tie as tie
 
 abbrev Inv-loop : tie.InvT-loop
-Inv-loop block fit₀ i₀ fit i = Tested block (λ (j : ℕ). flagb block (4914 + 260 * j) && flagb block (6994 + 5 * j)) 8 fit i
+Inv-loop block fit₀ i₀ fit i = Tested block (λ (j : ℕ). flagb block (queuesAt + queueCreated + queueSize * j) && flagb block (groupsAt + flaggedCreated + flaggedSize * j)) queueCount fit i
 
 abbrev μ-loop : tie.MeasureT-loop
-μ-loop block fit₀ i₀ fit i = 8 - i
+μ-loop block fit₀ i₀ fit i = queueCount - i
 
 pub queues-fit-spec : {M : Type 1} → statement M
 unfolding queueFlagsb

@@ -1,14 +1,15 @@
 use Prim.Native.Nat.{ℕ, _+_, _-_, _*_}
 use Rattle.apachimo.specs.State.{flagb, semaphoreFlagsb}
+use Rattle.apachimo.specs.Layout.{flaggedCreated, flaggedSize, semaphoreCount, semaphoresAt}
 use Rattle.apachimo.proofs.Laws.Flags.{Tested, tests}
 use Rattle.apachimo.proofs.flags.semaphores_fit.Statement.{statement}
 use Rattle.apachimo.proofs.flags.semaphores_fit.Tie as tie
 
 abbrev Inv-loop : tie.InvT-loop
-Inv-loop block fit₀ i₀ fit i = Tested block (λ (j : ℕ). flagb block (4834 + 5 * j)) 16 fit i
+Inv-loop block fit₀ i₀ fit i = Tested block (λ (j : ℕ). flagb block (semaphoresAt + flaggedCreated + flaggedSize * j)) semaphoreCount fit i
 
 abbrev μ-loop : tie.MeasureT-loop
-μ-loop block fit₀ i₀ fit i = 16 - i
+μ-loop block fit₀ i₀ fit i = semaphoreCount - i
 
 pub semaphores-fit-spec : {M : Type 1} → statement M
 unfolding semaphoreFlagsb

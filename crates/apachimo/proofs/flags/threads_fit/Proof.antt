@@ -1,15 +1,16 @@
 use mathlib.Core.Bool.{_&&_}
 use Prim.Native.Nat.{ℕ, _+_, _-_, _*_}
 use Rattle.apachimo.specs.State.{flagb, threadFlagsb}
+use Rattle.apachimo.specs.Layout.{heldAt, heldFront, heldSending, heldSize, threadCount, threadCreated, threadMarked, threadSize, threadSuspending, threadsAt}
 use Rattle.apachimo.proofs.Laws.Flags.{Tested, tests}
 use Rattle.apachimo.proofs.flags.threads_fit.Statement.{statement}
 use Rattle.apachimo.proofs.flags.threads_fit.Tie as tie
 
 abbrev Inv-loop : tie.InvT-loop
-Inv-loop block fit₀ i₀ fit i = Tested block (λ (j : ℕ). flagb block (34 + 11 * j) && flagb block (38 + 11 * j) && flagb block (39 + 11 * j) && flagb block (454 + 139 * j) && flagb block (455 + 139 * j)) 32 fit i
+Inv-loop block fit₀ i₀ fit i = Tested block (λ (j : ℕ). flagb block (threadsAt + threadCreated + threadSize * j) && flagb block (threadsAt + threadMarked + threadSize * j) && flagb block (threadsAt + threadSuspending + threadSize * j) && flagb block (heldAt + heldSending + heldSize * j) && flagb block (heldAt + heldFront + heldSize * j)) threadCount fit i
 
 abbrev μ-loop : tie.MeasureT-loop
-μ-loop block fit₀ i₀ fit i = 32 - i
+μ-loop block fit₀ i₀ fit i = threadCount - i
 
 pub threads-fit-spec : {M : Type 1} → statement M
 unfolding threadFlagsb

@@ -1,14 +1,15 @@
 use Prim.Native.Nat.{_-_}
 use Rattle.apachimo.specs.State.{groupOf}
+use Rattle.apachimo.specs.Layout.{flaggedSize, groupCount}
 use Rattle.apachimo.proofs.Laws.Reading.{Read, reads}
 use Rattle.apachimo.proofs.reading.groups_of.Statement.{statement}
 use Rattle.apachimo.proofs.reading.groups_of.Tie as tie
 
 abbrev Inv-loop : tie.InvT-loop
-Inv-loop b all₀ i₀ all i = Read groupOf 5 8 b all i
+Inv-loop b all₀ i₀ all i = Read groupOf flaggedSize groupCount b all i
 
 abbrev μ-loop : tie.MeasureT-loop
-μ-loop b all₀ i₀ all i = 8 - i
+μ-loop b all₀ i₀ all i = groupCount - i
 
 pub groups-of-spec : {M : Type 1} → statement M
 groups-of-spec =

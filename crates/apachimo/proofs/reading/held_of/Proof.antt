@@ -12,5 +12,4 @@ held-of-spec =
     (λ c. search needs) (λ c. search needs) (λ c. search needs) (λ c. search needs) (λ c. search needs)
     (λ c. search needs) (λ c. search needs) (λ c. search needs) (λ c. search needs) (λ c. search needs)
     (λ c. search needs) (λ c. search needs) (λ c. search needs) (λ c. search needs) (λ c. search needs)
-    (λ c. search needs) (λ c. search needs) (λ c. search needs) (λ c. search needs)
-    (λ c. rw (c .before .before .before .before .before .before .before .before .before .word-of .ensures, c .before .before .before .before .before .before .before .words-of .ensures, c .before .before .before .before .before .word-of2 .ensures, c .before .before .before .words-of2 .ensures)))
+    (λ c. rw (c .before .before .before .before .before .before .before .word-of .ensures, c .before .before .before .before .before .words-of .ensures, c .before .before .before .word-of2 .ensures)))

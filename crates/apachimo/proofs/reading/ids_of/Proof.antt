@@ -1,13 +1,14 @@
 use Prim.Native.Nat.{_-_}
+use Rattle.apachimo.specs.Layout.{threadCount}
 use Rattle.apachimo.proofs.Laws.Reading.{Copied, copies}
 use Rattle.apachimo.proofs.reading.ids_of.Statement.{statement}
 use Rattle.apachimo.proofs.reading.ids_of.Tie as tie
 
 abbrev Inv-loop : tie.InvT-loop
-Inv-loop b all₀ i₀ all i = Copied 32 b all i
+Inv-loop b all₀ i₀ all i = Copied threadCount b all i
 
 abbrev μ-loop : tie.MeasureT-loop
-μ-loop b all₀ i₀ all i = 32 - i
+μ-loop b all₀ i₀ all i = threadCount - i
 
 pub ids-of-spec : {M : Type 1} → statement M
 ids-of-spec =

@@ -1,13 +1,14 @@
 use Prim.Native.Nat.{_-_}
+use Rattle.apachimo.specs.Layout.{listCount}
 use Rattle.apachimo.proofs.Laws.Reading.{Copied, copies}
 use Rattle.apachimo.proofs.reading.list_of.Statement.{statement}
 use Rattle.apachimo.proofs.reading.list_of.Tie as tie
 
 abbrev Inv-loop : tie.InvT-loop
-Inv-loop b all₀ i₀ all i = Copied 64 b all i
+Inv-loop b all₀ i₀ all i = Copied listCount b all i
 
 abbrev μ-loop : tie.MeasureT-loop
-μ-loop b all₀ i₀ all i = 64 - i
+μ-loop b all₀ i₀ all i = listCount - i
 
 pub list-of-spec : {M : Type 1} → statement M
 list-of-spec =

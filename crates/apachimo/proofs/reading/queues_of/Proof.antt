@@ -1,14 +1,15 @@
 use Prim.Native.Nat.{_-_}
 use Rattle.apachimo.specs.State.{queueOf}
+use Rattle.apachimo.specs.Layout.{queueCount, queueSize}
 use Rattle.apachimo.proofs.Laws.Reading.{Read, reads}
 use Rattle.apachimo.proofs.reading.queues_of.Statement.{statement}
 use Rattle.apachimo.proofs.reading.queues_of.Tie as tie
 
 abbrev Inv-loop : tie.InvT-loop
-Inv-loop b all₀ i₀ all i = Read queueOf 260 8 b all i
+Inv-loop b all₀ i₀ all i = Read queueOf queueSize queueCount b all i
 
 abbrev μ-loop : tie.MeasureT-loop
-μ-loop b all₀ i₀ all i = 8 - i
+μ-loop b all₀ i₀ all i = queueCount - i
 
 pub queues-of-spec : {M : Type 1} → statement M
 queues-of-spec =

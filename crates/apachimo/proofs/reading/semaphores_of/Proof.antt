@@ -1,14 +1,15 @@
 use Prim.Native.Nat.{_-_}
 use Rattle.apachimo.specs.State.{semaphoreOf}
+use Rattle.apachimo.specs.Layout.{flaggedSize, semaphoreCount}
 use Rattle.apachimo.proofs.Laws.Reading.{Read, reads}
 use Rattle.apachimo.proofs.reading.semaphores_of.Statement.{statement}
 use Rattle.apachimo.proofs.reading.semaphores_of.Tie as tie
 
 abbrev Inv-loop : tie.InvT-loop
-Inv-loop b all₀ i₀ all i = Read semaphoreOf 5 16 b all i
+Inv-loop b all₀ i₀ all i = Read semaphoreOf flaggedSize semaphoreCount b all i
 
 abbrev μ-loop : tie.MeasureT-loop
-μ-loop b all₀ i₀ all i = 16 - i
+μ-loop b all₀ i₀ all i = semaphoreCount - i
 
 pub semaphores-of-spec : {M : Type 1} → statement M
 semaphores-of-spec =

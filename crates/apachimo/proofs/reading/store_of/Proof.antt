@@ -1,14 +1,16 @@
 use Prim.Native.Nat.{_-_}
 use Rattle.apachimo.specs.Blocks.{wordOf}
+use Rattle.words.specs.Words.{wordSize}
+use Rattle.apachimo.specs.Layout.{storeCount}
 use Rattle.apachimo.proofs.Laws.Reading.{Read, reads}
 use Rattle.apachimo.proofs.reading.store_of.Statement.{statement}
 use Rattle.apachimo.proofs.reading.store_of.Tie as tie
 
 abbrev Inv-loop : tie.InvT-loop
-Inv-loop b all₀ i₀ all i = Read wordOf 4 64 b all i
+Inv-loop b all₀ i₀ all i = Read wordOf wordSize storeCount b all i
 
 abbrev μ-loop : tie.MeasureT-loop
-μ-loop b all₀ i₀ all i = 64 - i
+μ-loop b all₀ i₀ all i = storeCount - i
 
 pub store-of-spec : {M : Type 1} → statement M
 store-of-spec =

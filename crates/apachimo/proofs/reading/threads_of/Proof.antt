@@ -1,14 +1,15 @@
 use Prim.Native.Nat.{_-_}
 use Rattle.apachimo.specs.State.{threadOf}
+use Rattle.apachimo.specs.Layout.{threadCount, threadSize}
 use Rattle.apachimo.proofs.Laws.Reading.{Read, reads}
 use Rattle.apachimo.proofs.reading.threads_of.Statement.{statement}
 use Rattle.apachimo.proofs.reading.threads_of.Tie as tie
 
 abbrev Inv-loop : tie.InvT-loop
-Inv-loop b all₀ i₀ all i = Read threadOf 11 32 b all i
+Inv-loop b all₀ i₀ all i = Read threadOf threadSize threadCount b all i
 
 abbrev μ-loop : tie.MeasureT-loop
-μ-loop b all₀ i₀ all i = 32 - i
+μ-loop b all₀ i₀ all i = threadCount - i
 
 pub threads-of-spec : {M : Type 1} → statement M
 threads-of-spec =

@@ -1,14 +1,15 @@
 use Prim.Native.Nat.{_-_}
 use Rattle.apachimo.specs.Bytes.{groupBytes}
+use Rattle.apachimo.specs.Layout.{flaggedSize, groupCount}
 use Rattle.apachimo.proofs.Laws.Writing.{Put, puts}
 use Rattle.apachimo.proofs.writing.put_groups.Statement.{statement}
 use Rattle.apachimo.proofs.writing.put_groups.Tie as tie
 
 abbrev Inv-loop : tie.InvT-loop
-Inv-loop b₀ all i₀ b i = Put groupBytes 5 8 all b i
+Inv-loop b₀ all i₀ b i = Put groupBytes flaggedSize groupCount all b i
 
 abbrev μ-loop : tie.MeasureT-loop
-μ-loop b₀ all i₀ b i = 8 - i
+μ-loop b₀ all i₀ b i = groupCount - i
 
 pub put-groups-spec : {M : Type 1} → statement M
 put-groups-spec =

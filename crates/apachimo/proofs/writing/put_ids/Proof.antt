@@ -1,13 +1,14 @@
 use Prim.Native.Nat.{_-_}
+use Rattle.apachimo.specs.Layout.{threadCount}
 use Rattle.apachimo.proofs.Laws.Reading.{Copied, copies}
 use Rattle.apachimo.proofs.writing.put_ids.Statement.{statement}
 use Rattle.apachimo.proofs.writing.put_ids.Tie as tie
 
 abbrev Inv-loop : tie.InvT-loop
-Inv-loop b₀ all i₀ b i = Copied 32 all b i
+Inv-loop b₀ all i₀ b i = Copied threadCount all b i
 
 abbrev μ-loop : tie.MeasureT-loop
-μ-loop b₀ all i₀ b i = 32 - i
+μ-loop b₀ all i₀ b i = threadCount - i
 
 pub put-ids-spec : {M : Type 1} → statement M
 put-ids-spec =

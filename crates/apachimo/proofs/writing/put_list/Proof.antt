@@ -1,13 +1,14 @@
 use Prim.Native.Nat.{_-_}
+use Rattle.apachimo.specs.Layout.{listCount}
 use Rattle.apachimo.proofs.Laws.Reading.{Copied, copies}
 use Rattle.apachimo.proofs.writing.put_list.Statement.{statement}
 use Rattle.apachimo.proofs.writing.put_list.Tie as tie
 
 abbrev Inv-loop : tie.InvT-loop
-Inv-loop b₀ all i₀ b i = Copied 64 all b i
+Inv-loop b₀ all i₀ b i = Copied listCount all b i
 
 abbrev μ-loop : tie.MeasureT-loop
-μ-loop b₀ all i₀ b i = 64 - i
+μ-loop b₀ all i₀ b i = listCount - i
 
 pub put-list-spec : {M : Type 1} → statement M
 put-list-spec =

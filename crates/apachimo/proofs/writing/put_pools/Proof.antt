@@ -1,14 +1,15 @@
 use Prim.Native.Nat.{_-_}
 use Rattle.apachimo.specs.Bytes.{poolBytes}
+use Rattle.apachimo.specs.Layout.{poolCount, poolSize}
 use Rattle.apachimo.proofs.Laws.Writing.{Put, puts}
 use Rattle.apachimo.proofs.writing.put_pools.Statement.{statement}
 use Rattle.apachimo.proofs.writing.put_pools.Tie as tie
 
 abbrev Inv-loop : tie.InvT-loop
-Inv-loop b₀ all i₀ b i = Put poolBytes 72 4 all b i
+Inv-loop b₀ all i₀ b i = Put poolBytes poolSize poolCount all b i
 
 abbrev μ-loop : tie.MeasureT-loop
-μ-loop b₀ all i₀ b i = 4 - i
+μ-loop b₀ all i₀ b i = poolCount - i
 
 pub put-pools-spec : {M : Type 1} → statement M
 put-pools-spec =

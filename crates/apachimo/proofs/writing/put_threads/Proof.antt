@@ -1,14 +1,15 @@
 use Prim.Native.Nat.{_-_}
 use Rattle.apachimo.specs.Bytes.{threadBytes}
+use Rattle.apachimo.specs.Layout.{threadCount, threadSize}
 use Rattle.apachimo.proofs.Laws.Writing.{Put, puts}
 use Rattle.apachimo.proofs.writing.put_threads.Statement.{statement}
 use Rattle.apachimo.proofs.writing.put_threads.Tie as tie
 
 abbrev Inv-loop : tie.InvT-loop
-Inv-loop b₀ all i₀ b i = Put threadBytes 11 32 all b i
+Inv-loop b₀ all i₀ b i = Put threadBytes threadSize threadCount all b i
 
 abbrev μ-loop : tie.MeasureT-loop
-μ-loop b₀ all i₀ b i = 32 - i
+μ-loop b₀ all i₀ b i = threadCount - i
 
 pub put-threads-spec : {M : Type 1} → statement M
 put-threads-spec =

@@ -1,14 +1,15 @@
 use Prim.Native.Nat.{_-_}
-use Rattle.apachimo.specs.Blocks.{wordBytes}
+use Rattle.words.specs.Words.{wordSize, wordBytes}
+use Rattle.apachimo.specs.Layout.{wordCount}
 use Rattle.apachimo.proofs.Laws.Writing.{Put, puts}
 use Rattle.apachimo.proofs.writing.put_words.Statement.{statement}
 use Rattle.apachimo.proofs.writing.put_words.Tie as tie
 
 abbrev Inv-loop : tie.InvT-loop
-Inv-loop b₀ all i₀ b i = Put wordBytes 4 16 all b i
+Inv-loop b₀ all i₀ b i = Put wordBytes wordSize wordCount all b i
 
 abbrev μ-loop : tie.MeasureT-loop
-μ-loop b₀ all i₀ b i = 16 - i
+μ-loop b₀ all i₀ b i = wordCount - i
 
 pub put-words-spec : {M : Type 1} → statement M
 put-words-spec =
