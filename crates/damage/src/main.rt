@@ -1,7 +1,8 @@
 // The soundness test on damaged tables: from sound tables with a waiter, a sleeper, a suspended thread and a semaphore
 // one field at a time is changed, and the verdict printed.
+use calls::call::Request;
 use kernel::Kernel;
-use lines::ThreadId;
+use numbers::ThreadId;
 
 fn print(text: &[u8]) {
     io::write_all(1, text);
@@ -19,7 +20,15 @@ fn verdict(what: &[u8], k: Kernel) {
 // The tables after one call, with one word of messages lent.
 fn after(k: Kernel, number: u32, caller: u32, a: u32, b: u32, c: u32, d: u32) -> Kernel {
     let words: [u32; 1] = [7; 1];
-    let r = k.call(number, caller, a, b, c, d, &words);
+    let request = Request {
+        number,
+        caller,
+        a,
+        b,
+        c,
+        d,
+    };
+    let r = k.call(request, &words);
     r.kernel
 }
 
@@ -77,11 +86,11 @@ fn held(k: Kernel) {
     let mut front = k;
     front.held[3].front = true;
     verdict(b"a front mark on a ready thread", front);
-    let mut message = k;
-    let mut m = message.held[0];
-    m.message[0] = 1;
-    message.held[0] = m;
-    verdict(b"a message of one who does not send", message);
+    let mut word = k;
+    let mut w = word.held[0];
+    w.words[0] = 1;
+    word.held[0] = w;
+    verdict(b"a word of a waiter that does not send", word);
     let mut request = k;
     request.held[0].request = 1;
     verdict(b"a request of one who does not wait for flags", request);

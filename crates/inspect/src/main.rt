@@ -1,12 +1,12 @@
 // Runs a call tape from nothing created, and prints the tables before the first call, and for each call the call itself, its result and the
 // tables after it.
+use calls::call::Request;
 use kernel::Answer;
 use kernel::Kernel;
-use lines::ThreadId;
+use numbers::ThreadId;
 use output::flush;
 use output::put_byte;
 use tables::put_tables;
-use tape::Record;
 use text::put_field;
 use text::put_refused;
 use text::put_thread;
@@ -15,20 +15,20 @@ use text::put_words;
 mod tables;
 
 // One call of the tape. The message words are those that a send takes its message from.
-fn carried_out(k: Kernel, r: Record, words: &[u32]) -> Answer {
-    k.call(r.call, r.caller, r.a, r.b, r.c, r.d, words)
+fn carried_out(k: Kernel, r: Request, words: &[u32]) -> Answer {
+    k.call(r, words)
 }
 
-fn put_arguments(buf: &mut [u8], at: usize, r: Record) -> usize {
+fn put_arguments(buf: &mut [u8], at: usize, r: Request) -> usize {
     let at = put_field(buf, at, b" ", r.a);
     let at = put_field(buf, at, b" ", r.b);
     let at = put_field(buf, at, b" ", r.c);
     put_field(buf, at, b" ", r.d)
 }
 
-fn put_call(buf: &mut [u8], at: usize, i: u32, r: Record) -> usize {
+fn put_call(buf: &mut [u8], at: usize, i: u32, r: Request) -> usize {
     let at = put_field(buf, at, b"call ", i);
-    let at = put_field(buf, at, b" ", r.call);
+    let at = put_field(buf, at, b" ", r.number);
     let at = put_field(buf, at, b" ", r.caller);
     let at = put_arguments(buf, at, r);
     put_byte(buf, at, b'\n')

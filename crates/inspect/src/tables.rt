@@ -1,7 +1,7 @@
 // The tables as text: what is created, by number, and the orders in which somebody stands.
 use calls::held::Held;
 use kernel::Kernel;
-use lines::ThreadId;
+use numbers::ThreadId;
 use output::put_byte;
 use output::put_text;
 use scheduler::Scheduler;

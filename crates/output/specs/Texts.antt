@@ -1,5 +1,5 @@
--- Text that goes into a buffer, byte by byte: where each byte goes, and what the buffer then holds. A buffer is its bytes and a position, up
--- to which it holds text that is not written out yet.
+-- Text that goes into a buffer, byte by byte: where each byte goes, and what the buffer then holds. A buffer is its bytes and a position,
+-- up to which it holds text that is not written out yet.
 use mathlib.Core.Path.{_≡_}
 use mathlib.Core.Bool.{cond}
 use mathlib.Core.List.{List, [], _∷_, _++_}
@@ -8,12 +8,12 @@ use lib.ListN.{length, take, drop, set}
 use lib.Dec.{ltb}
 
 -- where the next byte goes: at the position, or at the front, once a buffer that is full was written out
-unfoldable pub placeOf : ℕ → ℕ → ℕ
-placeOf size at = cond (ltb at size) at 0
+unfoldable pub placeIn : ℕ → ℕ → ℕ
+placeIn size at = cond (ltb at size) at 0
 
 -- the position behind a byte; a buffer of no size holds nothing
 unfoldable pub byteEnd : ℕ → ℕ → ℕ
-byteEnd size at = min (placeOf size at + 1) size
+byteEnd size at = min (placeIn size at + 1) size
 
 -- the position behind a text, in a buffer of a size; a position past the buffer counts as a full buffer
 unfoldable pub textEnd : ℕ → ℕ → List ℕ → ℕ
@@ -23,9 +23,9 @@ textEnd size at (b ∷ bs) = textEnd size (byteEnd size at) bs
 -- the buffer's bytes once a text went in
 unfoldable pub textIn : List ℕ → ℕ → List ℕ → List ℕ
 textIn buf at [] = buf
-textIn buf at (b ∷ bs) = textIn (set buf (placeOf (length buf) at) b) (byteEnd (length buf) at) bs
+textIn buf at (b ∷ bs) = textIn (set buf (placeIn (length buf) at) b) (byteEnd (length buf) at) bs
 
--- a text went into a buffer: the position and the bytes are then these. The last part follows from the first
+-- a text went into a buffer: the position and the bytes are then these; the last part follows from the first
 pub record Put (before : List ℕ) (at : ℕ) (text after : List ℕ) (r : ℕ) : Type 0 where
   pub end : r ≡ textEnd (length before) at text
   pub bytes : after ≡ textIn before at text
@@ -34,13 +34,14 @@ pub record Put (before : List ℕ) (at : ℕ) (text after : List ℕ) (r : ℕ) 
 -- A text that finds room stands behind the text before it, and every other byte is as before. Proved as `texts` of proofs/Laws/Texts.antt.
 pub record TextClaims : Type 0 where
   pub roomEnd : (size at : ℕ) (bs : List ℕ) → at + length bs ≤ size → textEnd size at bs ≡ at + length bs
-  pub roomBytes : (buf : List ℕ) (at : ℕ) (bs : List ℕ) → at + length bs ≤ length buf → textIn buf at bs ≡ take at buf ++ bs ++ drop (at + length bs) buf
+  pub roomBytes : (buf : List ℕ) (at : ℕ) (bs : List ℕ) → at + length bs ≤ length buf
+      → textIn buf at bs ≡ take at buf ++ bs ++ drop (at + length bs) buf
 
 -- the ASCII digits of a number that has at most so many
 unfoldable pub decimalIn : ℕ → ℕ → List ℕ
 decimalIn zero n = []
 decimalIn (suc k) n = cond (ltb n 10) ((48 + n) ∷ []) (decimalIn k (n / 10) ++ ((48 + n % 10) ∷ []))
 
--- the ASCII digits of a number of 64 bits, which has at most 20
+-- rule 11.6: the ASCII digits of a number of 64 bits, which has at most 20
 unfoldable pub decimalOf : ℕ → List ℕ
 decimalOf n = decimalIn 20 n

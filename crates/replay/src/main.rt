@@ -1,18 +1,18 @@
 // Runs a call tape from nothing created, and prints for each call its status, the next thread and how many waits it ended.
+use calls::call::Request;
 use kernel::Answer;
 use kernel::Kernel;
-use lines::ThreadId;
+use numbers::ThreadId;
 use output::flush;
 use output::put_byte;
 use output::put_decimal;
-use tape::Record;
 use text::put_field;
 use text::put_refused;
 use text::put_thread;
 
 // One call of the tape. The message words are those that a send takes its message from.
-fn carried_out(k: Kernel, r: Record, words: &[u32]) -> Answer {
-    k.call(r.call, r.caller, r.a, r.b, r.c, r.d, words)
+fn carried_out(k: Kernel, r: Request, words: &[u32]) -> Answer {
+    k.call(r, words)
 }
 
 fn put_answer(buf: &mut [u8], at: usize, status: u32, next: ThreadId, ended: u32) -> usize {

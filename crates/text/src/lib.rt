@@ -1,8 +1,8 @@
 // Pieces of text that the programs print, put into a buffer as in `output`: the position goes in and comes back.
 use calls::status::TAPE_REFUSED;
 use lines::Line;
-use lines::NOBODY;
-use lines::ThreadId;
+use numbers::NOBODY;
+use numbers::ThreadId;
 use output::put_byte;
 use output::put_decimal;
 use output::put_text;

@@ -7,6 +7,10 @@ use super::put_separator;
 use super::wide_word;
 use blocks::pool::Pool;
 use lines::Line;
+use numbers::GroupId;
+use numbers::PoolId;
+use numbers::QueueId;
+use numbers::SemaphoreId;
 use objects::group::Group;
 use objects::queue::Queue;
 use objects::semaphore::Semaphore;
@@ -14,10 +18,6 @@ use output::put_byte;
 use output::put_decimal;
 use output::put_text;
 use scheduler::Scheduler;
-use scheduler::thread::ON_BLOCK;
-use scheduler::thread::ON_FLAGS;
-use scheduler::thread::ON_QUEUE;
-use scheduler::thread::ON_SEMAPHORE;
 use scheduler::thread::Place;
 
 fn least(x: usize, y: usize) -> usize
@@ -39,10 +39,7 @@ pub fn put_semaphores(buf: &mut [u8], at: usize, all: [Semaphore; 16], s: Schedu
     let mut to = at;
     let mut n: usize = 0;
     while n < 16 {
-        let l = s.line_at(Place {
-            state: ON_SEMAPHORE,
-            number: n as u8,
-        });
+        let l = s.line_at(Place::semaphore(SemaphoreId(n as u8)));
         to = put_semaphore(buf, to, n as u32, all[n], l);
         n += 1;
     }
@@ -94,10 +91,7 @@ pub fn put_queues(buf: &mut [u8], at: usize, all: [Queue; 8], s: Scheduler) -> u
     let mut to = at;
     let mut n: usize = 0;
     while n < 8 {
-        let l = s.line_at(Place {
-            state: ON_QUEUE,
-            number: n as u8,
-        });
+        let l = s.line_at(Place::queue(QueueId(n as u8)));
         to = put_queue(buf, to, n as u32, all[n], l);
         n += 1;
     }
@@ -117,10 +111,7 @@ pub fn put_groups(buf: &mut [u8], at: usize, all: [Group; 8], s: Scheduler) -> u
     let mut to = at;
     let mut n: usize = 0;
     while n < 8 {
-        let l = s.line_at(Place {
-            state: ON_FLAGS,
-            number: n as u8,
-        });
+        let l = s.line_at(Place::group(GroupId(n as u8)));
         to = put_group(buf, to, n as u32, all[n], l);
         n += 1;
     }
@@ -156,10 +147,7 @@ pub fn put_pools(buf: &mut [u8], at: usize, all: [Pool; 4], s: Scheduler) -> usi
     let mut to = at;
     let mut n: usize = 0;
     while n < 4 {
-        let l = s.line_at(Place {
-            state: ON_BLOCK,
-            number: n as u8,
-        });
+        let l = s.line_at(Place::pool(PoolId(n as u8)));
         to = put_pool(buf, to, n as u32, all[n], l);
         n += 1;
     }

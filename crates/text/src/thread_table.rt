@@ -4,11 +4,11 @@ use super::put_line;
 use super::put_words;
 use calls::held::Held;
 use lines::Line;
+use numbers::PRIORITIES;
 use output::put_byte;
 use output::put_text;
 use scheduler::Scheduler;
 use scheduler::thread::Place;
-use scheduler::thread::READY;
 use scheduler::thread::Thread;
 
 // The ticks of a wait without end.
@@ -54,8 +54,8 @@ fn put_request(buf: &mut [u8], at: usize, th: Thread, h: Held) -> usize {
 
 // The held words, what the thread waits for and the message that it would send.
 fn put_held(buf: &mut [u8], at: usize, th: Thread, h: Held) -> usize {
-    let words = h.words;
-    let message = h.message;
+    let words = h.held_words();
+    let message = h.message();
     let at = put_text(buf, at, b" words=");
     let at = put_words(buf, at, &words, b',');
     let at = put_request(buf, at, th, h);
@@ -96,11 +96,8 @@ fn put_order(buf: &mut [u8], at: usize, priority: u32, l: Line) -> usize {
 pub fn put_orders(buf: &mut [u8], at: usize, s: Scheduler) -> usize {
     let mut to = at;
     let mut p: u8 = 0;
-    while p < 32 {
-        let l = s.line_at(Place {
-            state: READY,
-            number: p,
-        });
+    while p < PRIORITIES {
+        let l = s.line_at(Place::ready(p));
         to = put_order(buf, to, p as u32, l);
         p += 1;
     }

@@ -8,23 +8,23 @@ use lib.ListN.{length, take, drop, set, length-set}
 use lib.Seq.{sets, sets-eq, set-out}
 use lib.Dec.{ltb}
 use borrow.Author.Tests.{lt-ltb, le-ltb, ltb-true, ltb-false}
-use Rattle.output.specs.Texts.{placeOf, byteEnd, textEnd, textIn, Put, TextClaims}
+use Rattle.output.specs.Texts.{placeIn, byteEnd, textEnd, textIn, Put, TextClaims}
 
 -- ---- where a byte goes
-pub place-room : (size at : ℕ) → at < size → placeOf size at ≡ at
-unfolding placeOf
+pub place-room : (size at : ℕ) → at < size → placeIn size at ≡ at
+unfolding placeIn
 place-room size at h = rw (lt-ltb at size h)
 
-pub place-full : (size at : ℕ) → size ≤ at → placeOf size at ≡ 0
-unfolding placeOf
+pub place-full : (size at : ℕ) → size ≤ at → placeIn size at ≡ 0
+unfolding placeIn
 place-full size at h = rw (le-ltb at size h)
 
 -- a position past the buffer counts as a full buffer
-place-least : (size at : ℕ) → placeOf size (min at size) ≡ placeOf size at
+place-least : (size at : ℕ) → placeIn size (min at size) ≡ placeIn size at
 place-least size at = go (ltb at size) refl
   where
-    go : (b : Bool) → ltb at size ≡ b → placeOf size (min at size) ≡ placeOf size at
-    go true q = let h = ltb-true at size q in ap (placeOf size) (let e : min at size ≡ at = omega (arith, h) in e)
+    go : (b : Bool) → ltb at size ≡ b → placeIn size (min at size) ≡ placeIn size at
+    go true q = let h = ltb-true at size q in ap (placeIn size) (let e : min at size ≡ at = omega (arith, h) in e)
     go false q = let h = ltb-false at size q in place-full size (min at size) (omega (arith, h)) ∙ sym (place-full size at h)
 
 byte-least : (size at : ℕ) → byteEnd size (min at size) ≡ byteEnd size at
@@ -45,7 +45,7 @@ in-least buf at (b ∷ bs) = ap₂ (λ (k j : ℕ). textIn (set buf k b) j bs) (
 pub length-in : (buf : List ℕ) (at : ℕ) (bs : List ℕ) → length (textIn buf at bs) ≡ length buf
 unfolding textIn
 length-in buf at [] = refl
-length-in buf at (b ∷ bs) = length-in (set buf (placeOf (length buf) at) b) (byteEnd (length buf) at) bs ∙ length-set buf (placeOf (length buf) at) b
+length-in buf at (b ∷ bs) = length-in (set buf (placeIn (length buf) at) b) (byteEnd (length buf) at) bs ∙ length-set buf (placeIn (length buf) at) b
 
 end-append : (size at : ℕ) (xs ys : List ℕ) → textEnd size at (xs ++ ys) ≡ textEnd size (textEnd size at xs) ys
 unfolding textEnd
@@ -56,7 +56,7 @@ in-append : (buf : List ℕ) (at : ℕ) (xs ys : List ℕ) → textIn buf at (xs
 unfolding textIn textEnd
 in-append buf at [] ys = sym (in-least buf at ys)
 in-append buf at (x ∷ xs) ys =
-    let p = placeOf (length buf) at in
+    let p = placeIn (length buf) at in
     let q = byteEnd (length buf) at in
     in-append (set buf p x) q xs ys ∙ ap (λ (k : ℕ). textIn (textIn (set buf p x) q xs) (textEnd k q xs) ys) (length-set buf p x)
 
@@ -90,7 +90,7 @@ byte-full buf at b h l =
 pub byte-none : (buf : List ℕ) (at b : ℕ) → length buf ≤ 0 → Put buf at (b ∷ []) buf 0
 unfolding textEnd textIn byteEnd
 byte-none buf at b h =
-    record { end = omega arith; bytes = sym (set-out buf (placeOf (length buf) at) b (omega arith)); within = omega arith }
+    record { end = omega arith; bytes = sym (set-out buf (placeIn (length buf) at) b (omega arith)); within = omega arith }
 
 -- a text that finds room stands behind the text before it
 pub end-room : (size at : ℕ) (bs : List ℕ) → at + length bs ≤ size → textEnd size at bs ≡ at + length bs
@@ -98,7 +98,7 @@ unfolding textEnd byteEnd
 end-room size at [] h = omega arith
 end-room size at (b ∷ bs) h =
     let l : at + suc (length bs) ≤ size = h in
-    let e : min (placeOf size at + 1) size ≡ suc at = let p = place-room size at (omega arith) in omega (arith, p) in
+    let e : min (placeIn size at + 1) size ≡ suc at = let p = place-room size at (omega arith) in omega (arith, p) in
     let r = end-room size (suc at) bs (omega arith) in
     ap (λ (k : ℕ). textEnd size k bs) e ∙ r ∙ omega arith
 
@@ -108,7 +108,7 @@ in-sets buf at [] h = refl
 in-sets buf at (b ∷ bs) h =
     let l : at + suc (length bs) ≤ length buf = h in
     let p = place-room (length buf) at (omega arith) in
-    let e : min (placeOf (length buf) at + 1) (length buf) ≡ suc at = omega (arith, p) in
+    let e : min (placeIn (length buf) at + 1) (length buf) ≡ suc at = omega (arith, p) in
     ap₂ (λ (k j : ℕ). textIn (set buf k b) j bs) p e ∙ in-sets (set buf at b) (suc at) bs (rw length-set (omega arith))
 
 pub in-room : (buf : List ℕ) (at : ℕ) (bs : List ℕ) → at + length bs ≤ length buf → textIn buf at bs ≡ take at buf ++ bs ++ drop (at + length bs) buf
