@@ -157,7 +157,7 @@ fn a_smoke_run_reports_every_service() {
     assert!(picture.starts_with("<svg ") && picture.ends_with("</svg>\n"));
     assert!(!picture.contains("NaN") && !picture.contains("inf"), "{picture}");
     assert!(
-        text.contains("apachimo_is_sound") && text.contains("One copy of 7480 bytes"),
+        text.contains("apachimo_is_sound") && text.contains("One copy of 5432 bytes"),
         "{text}"
     );
 }
