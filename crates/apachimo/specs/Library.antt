@@ -13,7 +13,6 @@ use Rattle.tape.specs.Tapes.{refusedb, countOf}
 use Rattle.kernel.specs.declared.Answer.{Answer}
 use Rattle.kernel.specs.Tables.{started}
 use Rattle.kernel.specs.Sound.{soundb}
-use Rattle.kernel.specs.General.{call}
 use Rattle.kernel.specs.Claims.{doneb}
 use Rattle.kernel.specs.Runs.{replyOf, ran, ranReplies}
 use Rattle.apachimo.specs.declared.Run.{Run}

@@ -13,7 +13,7 @@ use Rattle.objects.specs.Queues.{emptyb, roomb, sizesFitb}
 use Rattle.objects.specs.Groups.{metb}
 use Rattle.blocks.specs.declared.pool.Pool.{Pool}
 use Rattle.blocks.specs.Pools.{blockSizesb, usedb}
-use Rattle.calls.specs.Callers.{startup, thread, startupOrThread, threadOnly, interruptOnly}
+use Rattle.calls.specs.Callers.{thread, startupOrThread, threadOnly, interruptOnly}
 use Rattle.calls.specs.Statuses
 
 -- no reason where the test holds, else the status

@@ -1,6 +1,6 @@
 -- The calls of each kind of object, by number, and what a call of a number may do.
 use mathlib.Core.List.{List, [], _∷_}
-use mathlib.Core.Bool.{Bool, true, false, _&&_, _||_}
+use mathlib.Core.Bool.{Bool, true, _&&_, _||_}
 use Prim.Native.Nat.{ℕ}
 use lib.Dec.{eqb, ltb}
 use Rattle.numbers.specs.Numbers.{threads}

@@ -17,7 +17,7 @@ use Rattle.kernel.specs.declared.Kernel.{Kernel}
 use Rattle.words.specs.Words.{Byte, Word, wordSize, wordBytes, halfBytes}
 use Rattle.words.proofs.Laws.Words.{word-spelled, half-spelled, low-byte}
 use Rattle.apachimo.specs.Blocks.{part, byteAt, wordOf, halfOf, tableOf, wordsOf, flagByte, allBytes}
-use Rattle.apachimo.specs.Layout.{clockAt, flaggedCreated, flaggedSize, groupCount, groupsAt, heldAt, heldFront, heldSending, heldSize, heldWords, listCount, poolCount, poolCreated, poolSize, poolsAt, queueCount, queueCreated, queueSize, queuesAt, schedulerAt, schedulerIds, schedulerLen, schedulerSize, schedulerThreads, semaphoreCount, semaphoresAt, stateBytes, storeCount, storeSize, threadCount, threadCreated, threadMarked, threadSize, threadSuspending, threadsAt, wordCount, wordsSize}
+use Rattle.apachimo.specs.Layout.{clockAt, flaggedCreated, flaggedSize, groupCount, groupsAt, heldAt, heldFront, heldSending, heldSize, heldWords, listCount, poolCount, poolCreated, poolSize, poolsAt, queueCount, queueCreated, queueSize, queuesAt, schedulerAt, schedulerIds, schedulerLen, schedulerSize, schedulerThreads, semaphoreCount, semaphoresAt, stateBytes, storeCount, storeSize, threadCount, threadCreated, threadMarked, threadSize, threadSuspending, threadsAt, wordCount}
 use Rattle.apachimo.specs.State.{threadOf, heldOf, semaphoreOf, queueOf, groupOf, poolOf, schedulerOf, kernelOf, flagb, threadFlagsb, semaphoreFlagsb, queueFlagsb, poolFlagsb, flagsFitb}
 use Rattle.apachimo.specs.Bytes.{threadBytes, heldBytes, flaggedBytes, semaphoreBytes, groupBytes, queueBytes, poolBytes, schedulerBytes, bytesOf}
 use Rattle.apachimo.specs.Restored.{All, Array, ThreadFits, HeldFits, SemaphoreFits, QueueFits, GroupFits, PoolFits, SchedulerFits, Fits, BlockClaims}

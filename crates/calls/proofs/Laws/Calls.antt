@@ -1,5 +1,5 @@
 -- Laws of decoding.
-use mathlib.Core.Path.{_≡_, refl, sym, ap, _∙_}
+use mathlib.Core.Path.{_≡_, refl, sym, ap, _∙_, subst}
 use mathlib.Core.List.{List, [], _∷_}
 use mathlib.Core.Bool.{Bool, true, false, _||_}
 use Prim.Native.Nat.{ℕ, _≤_, min}
@@ -7,9 +7,10 @@ use native.Mathlib.Omega.{arith}
 use lib.Dec.{eqb, ltb}
 use borrow.Author.Tests.{le-ltb, ne-eqb, eqb-true, lt-ltb, ltb-true, ltb-false}
 use Rattle.lines.specs.Logic.{if_then_else_}
-use Rattle.lines.proofs.Laws.Logic.{by-test, never, or-rest}
+use Rattle.lines.proofs.Laws.Logic.{by-test, by-choice, never, or-rest}
 use Rattle.objects.specs.Groups.{orOptionb, metb}
 use Rattle.calls.specs.declared.call.Request.{Request}
+use Rattle.calls.specs.declared.call.Decoded.{Decoded}
 use Rattle.calls.specs.declared.call.Decoded.the-variants.{Unknown}
 use Rattle.calls.specs.Calls.{decoded, knownCall}
 
@@ -19,6 +20,10 @@ unfolding decoded
 decoded-as q m h e =
     ap (λ (x : Bool). if x then Unknown else knownCall (q .number) (q .a) (q .b) (q .c) (q .d)) (le-ltb 2 (q .caller) h)
     ∙ ap (λ (x : ℕ). knownCall x (q .a) (q .b) (q .c) (q .d)) e
+
+-- what holds of the call of number m, and of every other, holds of the choice between them
+pub by-number : (P : ℕ → Decoded → Type 0) (n m : ℕ) (x y : Decoded) → P m x → P n y → P n (if eqb n m then x else y)
+by-number P n m x y D E = by-choice (P n) (eqb n m) x y (λ e. subst (λ (i : ℕ). P i x) (sym (eqb-true n m e)) D) (λ e. E)
 
 -- ---- numbers of no call
 -- n is none of a list of numbers

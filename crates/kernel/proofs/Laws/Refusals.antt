@@ -1,12 +1,12 @@
 -- Laws of the table of refusals: of every known call it says what the code's chain says.
-use mathlib.Core.Path.{_≡_, refl, sym, ap, _∙_, subst}
+use mathlib.Core.Path.{_≡_, refl, sym, ap, _∙_}
 use mathlib.Core.List.{List}
 use mathlib.Core.Bool.{Bool, true, false, _&&_, _||_, not}
 use Prim.Native.Nat.{ℕ, _+_, _<_, min}
 use native.Mathlib.Omega.{arith}
 use lib.Dec.{eqb, ltb, leb}
 use lib.ListN.{length}
-use borrow.Author.Tests.{eqb-true, eqb-false, ltb-true, ltb-false, lt-ltb, le-ltb, le-leb, lt-leb, ne-eqb, eq-eqb}
+use borrow.Author.Tests.{eqb-false, ltb-true, ltb-false, le-leb, lt-leb, ne-eqb, eq-eqb}
 use Rattle.lines.specs.Logic.{if_then_else_}
 use Rattle.lines.proofs.Laws.Logic.{by-test, by-choice}
 use Rattle.scheduler.specs.Threads.{finishedb}
@@ -17,6 +17,7 @@ use Rattle.calls.specs.Statuses as Statuses
 use Rattle.calls.specs.declared.call.Request.{Request}
 use Rattle.calls.specs.declared.call.Decoded.{Decoded}
 use Rattle.calls.specs.declared.call.Decoded.the-variants.{Known, Unknown}
+use Rattle.calls.proofs.Laws.Calls.{by-number}
 use Rattle.kernel.specs.declared.Kernel.{Kernel}
 use Rattle.objects.specs.Queues.{emptyb, roomb}
 use Rattle.objects.specs.Groups.{metb}
@@ -104,9 +105,6 @@ module _ (k : Kernel) (caller a b c d : ℕ) (messages : List ℕ) where
   Same n (Known call) = reasonOf k (request n) messages ≡ chained k caller call messages
   Same n Unknown = Unit {0}
 
-  or-else : (n m : ℕ) (x y : Decoded) → Same m x → Same n y → Same n (if eqb n m then x else y)
-  or-else n m x y D E = by-choice (Same n) (eqb n m) x y (λ e. subst (λ (i : ℕ). Same i x) (sym (eqb-true n m e)) D) (λ e. E)
-
   -- the first row is the same for all
   known : (r c : ℕ) → r ≡ c → (if nobodyRunsb caller (runnerOf k) then Statuses.nobodyRuns else r) ≡ (if nobodyRunsb caller (runnerOf k) then Statuses.nobodyRuns else c)
   known r c e = ap (λ (x : ℕ). if nobodyRunsb caller (runnerOf k) then Statuses.nobodyRuns else x) e
@@ -114,45 +112,45 @@ module _ (k : Kernel) (caller a b c d : ℕ) (messages : List ℕ) where
   known-same : (n : ℕ) → Same n (knownCall n a b c d)
   unfolding knownCall reasonOf firstReason refusals chained chainOf limitOf allowedb Chains.createRefusal Chains.deleteRefusal Chains.resumeRefusal Chains.suspendRefusal Chains.terminateRefusal Chains.resetRefusal Chains.setRefusal Chains.threadOnlyRefusal Chains.abortRefusal Chains.priorityRefusal Chains.preemptionRefusal Chains.tickRefusal Chains.semaphoreCreateRefusal Chains.semaphoreDeleteRefusal Chains.semaphoreGetRefusal Chains.semaphoreRefusal Chains.ceilingRefusal Chains.queueCreateRefusal Chains.queueDeleteRefusal Chains.sendRefusal Chains.receiveRefusal Chains.queueRefusal Chains.groupCreateRefusal Chains.groupDeleteRefusal Chains.getRefusal Chains.poolCreateRefusal Chains.poolDeleteRefusal Chains.allocateRefusal Chains.releaseRefusal Chains.poolRefusal Chains.readRefusal
   known-same n =
-      or-else n 1 _ _ (known _ _ (link _ _ _ _ _ (or-not (ltb (min a 32) 32) (threadOf k (min a 32) .created)) refl (link _ _ _ _ _ (at-least 32 b) refl (link _ _ _ _ _ (above b c) refl (link _ _ _ _ _ (start-is d) refl (last _ _ _ refl)))))) (
-      or-else n 2 _ _ (known _ _ (link _ _ _ _ _ refl refl (link _ _ _ _ _ refl refl (last _ _ _ refl)))) (
-      or-else n 3 _ _ (known _ _ (link _ _ _ _ _ refl refl (last _ _ _ refl))) (
-      or-else n 4 _ _ (known _ _ (link _ _ _ _ _ refl refl (last _ _ _ (not-not (finishedb (threadOf k (min a 32))))))) (
-      or-else n 5 _ _ (known _ _ (link _ _ _ _ _ refl refl (last _ _ _ refl))) (
-      or-else n 6 _ _ (known _ _ (link _ _ _ _ _ refl refl (link _ _ _ _ _ refl refl (last _ _ _ refl)))) (
-      or-else n 7 _ _ (known _ _ (last _ _ _ refl)) (
-      or-else n 8 _ _ (known _ _ (last _ _ _ refl)) (
-      or-else n 9 _ _ (known _ _ (last _ _ _ refl)) (
-      or-else n 10 _ _ (known _ _ (link _ _ _ _ _ refl refl (last _ _ _ refl))) (
-      or-else n 11 _ _ (known _ _ (link _ _ _ _ _ refl refl (link _ _ _ _ _ (at-least 32 b) refl (last _ _ _ refl)))) (
-      or-else n 12 _ _ (known _ _ (link _ _ _ _ _ refl refl (link _ _ _ _ _ (above (threadOf k (min a 32) .priority) b) refl (last _ _ _ refl)))) (
-      or-else n 13 _ _ (known _ _ refl) (
-      or-else n 14 _ _ (known _ _ refl) (
-      or-else n 15 _ _ (known _ _ (last _ _ _ refl)) (
-      or-else n 16 _ _ (known _ _ (link _ _ _ _ _ (or-not (ltb (min a 16) 16) (semaphoreAt k (min a 16) .created)) refl (last _ _ _ refl))) (
-      or-else n 17 _ _ (known _ _ (link _ _ _ _ _ refl refl (last _ _ _ refl))) (
-      or-else n 18 _ _ (known _ _ (link _ _ _ _ _ refl refl (link _ _ _ _ _ (neither (eqb b 0) (eqb caller 2)) refl (last _ _ _ (none-there b (eqb (semaphoreAt k (min a 16) .count) 0) (ltb 0 (semaphoreAt k (min a 16) .count)) (zero-is (semaphoreAt k (min a 16) .count))))))) (
-      or-else n 19 _ _ (known _ _ (last _ _ _ refl)) (
-      or-else n 20 _ _ (known _ _ (link _ _ _ _ _ refl refl (link _ _ _ _ _ (zero-is b) refl (last _ _ _ (at-least b (semaphoreAt k (min a 16) .count)))))) (
-      or-else n 21 _ _ (known _ _ (last _ _ _ refl)) (
-      or-else n 22 _ _ (known _ _ (link _ _ _ _ _ (or-not (ltb (min a 8) 8) (queueAt k (min a 8) .created)) refl (link _ _ _ _ _ refl refl (last _ _ _ refl)))) (
-      or-else n 23 _ _ (known _ _ (link _ _ _ _ _ refl refl (last _ _ _ refl))) (
-      or-else n 24 _ _ (known _ _ (link _ _ _ _ _ refl refl (link _ _ _ _ _ (above (length messages) (c + queueAt k (min a 8) .words)) refl (link _ _ _ _ _ (neither (eqb b 0) (eqb caller 2)) refl (last _ _ _ (none-there b (not (roomb (queueAt k (min a 8)))) (roomb (queueAt k (min a 8))) refl)))))) (
-      or-else n 25 _ _ (known _ _ (link _ _ _ _ _ refl refl (link _ _ _ _ _ (above (length messages) (c + queueAt k (min a 8) .words)) refl (link _ _ _ _ _ (neither (eqb b 0) (eqb caller 2)) refl (last _ _ _ (none-there b (not (roomb (queueAt k (min a 8)))) (roomb (queueAt k (min a 8))) refl)))))) (
-      or-else n 26 _ _ (known _ _ (link _ _ _ _ _ refl refl (link _ _ _ _ _ (neither (eqb b 0) (eqb caller 2)) refl (last _ _ _ (none-there b (emptyb (queueAt k (min a 8))) (not (emptyb (queueAt k (min a 8)))) (not-not (emptyb (queueAt k (min a 8))))))))) (
-      or-else n 27 _ _ (known _ _ (last _ _ _ refl)) (
-      or-else n 28 _ _ (known _ _ (last _ _ _ refl)) (
-      or-else n 29 _ _ (known _ _ (link _ _ _ _ _ (or-not (ltb (min a 8) 8) (groupAt k (min a 8) .created)) refl (last _ _ _ refl))) (
-      or-else n 30 _ _ (known _ _ (link _ _ _ _ _ refl refl (last _ _ _ refl))) (
-      or-else n 31 _ _ (known _ _ (link _ _ _ _ _ refl refl (last _ _ _ refl))) (
-      or-else n 32 _ _ (known _ _ (link _ _ _ _ _ refl refl (link _ _ _ _ _ (above 3 c) refl (link _ _ _ _ _ (neither (eqb d 0) (eqb caller 2)) refl (last _ _ _ (none-there d (not (metb (groupAt k (min a 8) .flags) b c)) (metb (groupAt k (min a 8) .flags) b c) refl)))))) (
-      or-else n 33 _ _ (known _ _ (link _ _ _ _ _ (or-not (ltb (min a 4) 4) (poolAt k (min a 4) .created)) refl (link _ _ _ _ _ refl refl (last _ _ _ refl)))) (
-      or-else n 34 _ _ (known _ _ (link _ _ _ _ _ refl refl (last _ _ _ refl))) (
-      or-else n 35 _ _ (known _ _ (link _ _ _ _ _ refl refl (link _ _ _ _ _ (neither (eqb b 0) (eqb caller 2)) refl (last _ _ _ (none-there b (eqb (poolAt k (min a 4) .free) 0) (ltb 0 (poolAt k (min a 4) .free)) (zero-is (poolAt k (min a 4) .free))))))) (
-      or-else n 36 _ _ (known _ _ (link _ _ _ _ _ refl refl (last _ _ _ refl))) (
-      or-else n 37 _ _ (known _ _ (last _ _ _ refl)) (
-      or-else n 38 _ _ (known _ _ (last _ _ _ refl)) (
-      or-else n 39 _ _ (known _ _ (last _ _ _ refl)) (
+      by-number Same n 1 _ _ (known _ _ (link _ _ _ _ _ (or-not (ltb (min a 32) 32) (threadOf k (min a 32) .created)) refl (link _ _ _ _ _ (at-least 32 b) refl (link _ _ _ _ _ (above b c) refl (link _ _ _ _ _ (start-is d) refl (last _ _ _ refl)))))) (
+      by-number Same n 2 _ _ (known _ _ (link _ _ _ _ _ refl refl (link _ _ _ _ _ refl refl (last _ _ _ refl)))) (
+      by-number Same n 3 _ _ (known _ _ (link _ _ _ _ _ refl refl (last _ _ _ refl))) (
+      by-number Same n 4 _ _ (known _ _ (link _ _ _ _ _ refl refl (last _ _ _ (not-not (finishedb (threadOf k (min a 32))))))) (
+      by-number Same n 5 _ _ (known _ _ (link _ _ _ _ _ refl refl (last _ _ _ refl))) (
+      by-number Same n 6 _ _ (known _ _ (link _ _ _ _ _ refl refl (link _ _ _ _ _ refl refl (last _ _ _ refl)))) (
+      by-number Same n 7 _ _ (known _ _ (last _ _ _ refl)) (
+      by-number Same n 8 _ _ (known _ _ (last _ _ _ refl)) (
+      by-number Same n 9 _ _ (known _ _ (last _ _ _ refl)) (
+      by-number Same n 10 _ _ (known _ _ (link _ _ _ _ _ refl refl (last _ _ _ refl))) (
+      by-number Same n 11 _ _ (known _ _ (link _ _ _ _ _ refl refl (link _ _ _ _ _ (at-least 32 b) refl (last _ _ _ refl)))) (
+      by-number Same n 12 _ _ (known _ _ (link _ _ _ _ _ refl refl (link _ _ _ _ _ (above (threadOf k (min a 32) .priority) b) refl (last _ _ _ refl)))) (
+      by-number Same n 13 _ _ (known _ _ refl) (
+      by-number Same n 14 _ _ (known _ _ refl) (
+      by-number Same n 15 _ _ (known _ _ (last _ _ _ refl)) (
+      by-number Same n 16 _ _ (known _ _ (link _ _ _ _ _ (or-not (ltb (min a 16) 16) (semaphoreAt k (min a 16) .created)) refl (last _ _ _ refl))) (
+      by-number Same n 17 _ _ (known _ _ (link _ _ _ _ _ refl refl (last _ _ _ refl))) (
+      by-number Same n 18 _ _ (known _ _ (link _ _ _ _ _ refl refl (link _ _ _ _ _ (neither (eqb b 0) (eqb caller 2)) refl (last _ _ _ (none-there b (eqb (semaphoreAt k (min a 16) .count) 0) (ltb 0 (semaphoreAt k (min a 16) .count)) (zero-is (semaphoreAt k (min a 16) .count))))))) (
+      by-number Same n 19 _ _ (known _ _ (last _ _ _ refl)) (
+      by-number Same n 20 _ _ (known _ _ (link _ _ _ _ _ refl refl (link _ _ _ _ _ (zero-is b) refl (last _ _ _ (at-least b (semaphoreAt k (min a 16) .count)))))) (
+      by-number Same n 21 _ _ (known _ _ (last _ _ _ refl)) (
+      by-number Same n 22 _ _ (known _ _ (link _ _ _ _ _ (or-not (ltb (min a 8) 8) (queueAt k (min a 8) .created)) refl (link _ _ _ _ _ refl refl (last _ _ _ refl)))) (
+      by-number Same n 23 _ _ (known _ _ (link _ _ _ _ _ refl refl (last _ _ _ refl))) (
+      by-number Same n 24 _ _ (known _ _ (link _ _ _ _ _ refl refl (link _ _ _ _ _ (above (length messages) (c + queueAt k (min a 8) .words)) refl (link _ _ _ _ _ (neither (eqb b 0) (eqb caller 2)) refl (last _ _ _ (none-there b (not (roomb (queueAt k (min a 8)))) (roomb (queueAt k (min a 8))) refl)))))) (
+      by-number Same n 25 _ _ (known _ _ (link _ _ _ _ _ refl refl (link _ _ _ _ _ (above (length messages) (c + queueAt k (min a 8) .words)) refl (link _ _ _ _ _ (neither (eqb b 0) (eqb caller 2)) refl (last _ _ _ (none-there b (not (roomb (queueAt k (min a 8)))) (roomb (queueAt k (min a 8))) refl)))))) (
+      by-number Same n 26 _ _ (known _ _ (link _ _ _ _ _ refl refl (link _ _ _ _ _ (neither (eqb b 0) (eqb caller 2)) refl (last _ _ _ (none-there b (emptyb (queueAt k (min a 8))) (not (emptyb (queueAt k (min a 8)))) (not-not (emptyb (queueAt k (min a 8))))))))) (
+      by-number Same n 27 _ _ (known _ _ (last _ _ _ refl)) (
+      by-number Same n 28 _ _ (known _ _ (last _ _ _ refl)) (
+      by-number Same n 29 _ _ (known _ _ (link _ _ _ _ _ (or-not (ltb (min a 8) 8) (groupAt k (min a 8) .created)) refl (last _ _ _ refl))) (
+      by-number Same n 30 _ _ (known _ _ (link _ _ _ _ _ refl refl (last _ _ _ refl))) (
+      by-number Same n 31 _ _ (known _ _ (link _ _ _ _ _ refl refl (last _ _ _ refl))) (
+      by-number Same n 32 _ _ (known _ _ (link _ _ _ _ _ refl refl (link _ _ _ _ _ (above 3 c) refl (link _ _ _ _ _ (neither (eqb d 0) (eqb caller 2)) refl (last _ _ _ (none-there d (not (metb (groupAt k (min a 8) .flags) b c)) (metb (groupAt k (min a 8) .flags) b c) refl)))))) (
+      by-number Same n 33 _ _ (known _ _ (link _ _ _ _ _ (or-not (ltb (min a 4) 4) (poolAt k (min a 4) .created)) refl (link _ _ _ _ _ refl refl (last _ _ _ refl)))) (
+      by-number Same n 34 _ _ (known _ _ (link _ _ _ _ _ refl refl (last _ _ _ refl))) (
+      by-number Same n 35 _ _ (known _ _ (link _ _ _ _ _ refl refl (link _ _ _ _ _ (neither (eqb b 0) (eqb caller 2)) refl (last _ _ _ (none-there b (eqb (poolAt k (min a 4) .free) 0) (ltb 0 (poolAt k (min a 4) .free)) (zero-is (poolAt k (min a 4) .free))))))) (
+      by-number Same n 36 _ _ (known _ _ (link _ _ _ _ _ refl refl (last _ _ _ refl))) (
+      by-number Same n 37 _ _ (known _ _ (last _ _ _ refl)) (
+      by-number Same n 38 _ _ (known _ _ (last _ _ _ refl)) (
+      by-number Same n 39 _ _ (known _ _ (last _ _ _ refl)) (
       tt)))))))))))))))))))))))))))))))))))))))
 
 -- of a request for a known call the table says what the chain says

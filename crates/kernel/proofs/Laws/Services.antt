@@ -4,7 +4,7 @@ use mathlib.Core.List.{List}
 use mathlib.Core.Bool.{Bool, true, false, _&&_, not}
 use Prim.Native.Nat.{ℕ, _<_, min}
 use lib.Dec.{eqb, ltb}
-use borrow.Author.Tests.{eqb-true, ltb-true, not-false}
+use borrow.Author.Tests.{ltb-true, not-false}
 use Rattle.lines.specs.Logic.{if_then_else_}
 use Rattle.lines.proofs.Laws.Logic.{by-choice}
 use Rattle.calls.specs.Calls.{decoded, knownCall}
@@ -12,6 +12,7 @@ use Rattle.calls.specs.Statuses as Statuses
 use Rattle.calls.specs.declared.call.Request.{Request}
 use Rattle.calls.specs.declared.call.Decoded.{Decoded}
 use Rattle.calls.specs.declared.call.Decoded.the-variants.{Known, Unknown}
+use Rattle.calls.proofs.Laws.Calls.{by-number}
 use Rattle.kernel.specs.declared.Kernel.{Kernel}
 use Rattle.kernel.specs.Tables.{runnerOf}
 use Rattle.kernel.specs.Answers.{Outcome, refused}
@@ -37,53 +38,49 @@ module _ (k : Kernel) (caller a b c d : ℕ) (messages : List ℕ) where
   By n (Known call) = Does.Does k caller n (min a (limitOf n)) b c messages (chainOf k caller call messages) (effectOf k call messages)
   By n Unknown = Unit {0}
 
-  -- the call of number m, or another
-  or-else : (n m : ℕ) (x y : Decoded) → By m x → By n y → By n (if eqb n m then x else y)
-  or-else n m x y D E = by-choice (By n) (eqb n m) x y (λ e. subst (λ (i : ℕ). By i x) (sym (eqb-true n m e)) D) (λ e. E)
-
   -- the calls one by one: the only place in these laws that goes through all of them
   known-does : (n : ℕ) → By n (knownCall n a b c d)
   unfolding knownCall chainOf effectOf limitOf
   known-does n =
-      or-else n 1 _ _ (Threads.create-does k b c messages caller (min a 32) b c d) (
-      or-else n 2 _ _ (Threads.delete-does k b c messages caller (min a 32)) (
-      or-else n 3 _ _ (Threads.resume-does k b c messages caller (min a 32)) (
-      or-else n 4 _ _ (Threads.suspend-does k b c messages caller (min a 32)) (
-      or-else n 5 _ _ (Threads.terminate-does k b c messages caller (min a 32)) (
-      or-else n 6 _ _ (Threads.reset-does k b c messages caller (min a 32)) (
-      or-else n 7 _ _ (Threads.finish-does k b c messages caller (min a 32)) (
-      or-else n 8 _ _ (Threads.relinquish-does k b c messages caller (min a 32)) (
-      or-else n 9 _ _ (Threads.sleep-does k b c messages caller (min a 32) a) (
-      or-else n 10 _ _ (Threads.abort-does k b c messages caller (min a 32)) (
-      or-else n 11 _ _ (Threads.priority-does k b c messages caller (min a 32) b) (
-      or-else n 12 _ _ (Threads.preemption-does k b c messages caller (min a 32) b) (
-      or-else n 13 _ _ (Clock.get-does k b c messages caller (min a 32)) (
-      or-else n 14 _ _ (Clock.set-does k b c messages caller (min a 32) a) (
-      or-else n 15 _ _ (Clock.tick-does k b c messages caller (min a 32)) (
-      or-else n 16 _ _ (Semaphores.create-does k b c messages caller (min a 16)) (
-      or-else n 17 _ _ (Semaphores.delete-does k b c messages caller (min a 16)) (
-      or-else n 18 _ _ (Semaphores.get-does k b c messages caller (min a 16) b) (
-      or-else n 19 _ _ (Semaphores.put-does k b c messages caller (min a 16)) (
-      or-else n 20 _ _ (Semaphores.ceiling-does k b c messages caller (min a 16) b) (
-      or-else n 21 _ _ (Semaphores.prioritize-does k b c messages caller (min a 16)) (
-      or-else n 22 _ _ (Queues.create-does k b c messages caller (min a 8)) (
-      or-else n 23 _ _ (Queues.delete-does k b c messages caller (min a 8)) (
-      or-else n 24 _ _ (Queues.send-does k b c messages caller (min a 8) b) (
-      or-else n 25 _ _ (Queues.front-does k b c messages caller (min a 8) b) (
-      or-else n 26 _ _ (Queues.receive-does k b c messages caller (min a 8) b) (
-      or-else n 27 _ _ (Queues.flush-does k b c messages caller (min a 8)) (
-      or-else n 28 _ _ (Queues.prioritize-does k b c messages caller (min a 8)) (
-      or-else n 29 _ _ (Groups.create-does k b c messages caller (min a 8)) (
-      or-else n 30 _ _ (Groups.delete-does k b c messages caller (min a 8)) (
-      or-else n 31 _ _ (Groups.set-does k b c messages caller (min a 8) b c) (
-      or-else n 32 _ _ (Groups.get-does k b c messages caller (min a 8) b c d) (
-      or-else n 33 _ _ (Pools.create-does k b c messages caller (min a 4)) (
-      or-else n 34 _ _ (Pools.delete-does k b c messages caller (min a 4)) (
-      or-else n 35 _ _ (Pools.allocate-does k b c messages caller (min a 4) b) (
-      or-else n 36 _ _ (Pools.release-does k b c messages caller (min a 4)) (
-      or-else n 37 _ _ (Pools.prioritize-does k b c messages caller (min a 4)) (
-      or-else n 38 _ _ (Threads.state-does k b c messages caller (min a 32)) (
-      or-else n 39 _ _ (Threads.words-does k b c messages caller (min a 32)) (
+      by-number By n 1 _ _ (Threads.create-does k b c messages caller (min a 32) b c d) (
+      by-number By n 2 _ _ (Threads.delete-does k b c messages caller (min a 32)) (
+      by-number By n 3 _ _ (Threads.resume-does k b c messages caller (min a 32)) (
+      by-number By n 4 _ _ (Threads.suspend-does k b c messages caller (min a 32)) (
+      by-number By n 5 _ _ (Threads.terminate-does k b c messages caller (min a 32)) (
+      by-number By n 6 _ _ (Threads.reset-does k b c messages caller (min a 32)) (
+      by-number By n 7 _ _ (Threads.finish-does k b c messages caller (min a 32)) (
+      by-number By n 8 _ _ (Threads.relinquish-does k b c messages caller (min a 32)) (
+      by-number By n 9 _ _ (Threads.sleep-does k b c messages caller (min a 32) a) (
+      by-number By n 10 _ _ (Threads.abort-does k b c messages caller (min a 32)) (
+      by-number By n 11 _ _ (Threads.priority-does k b c messages caller (min a 32) b) (
+      by-number By n 12 _ _ (Threads.preemption-does k b c messages caller (min a 32) b) (
+      by-number By n 13 _ _ (Clock.get-does k b c messages caller (min a 32)) (
+      by-number By n 14 _ _ (Clock.set-does k b c messages caller (min a 32) a) (
+      by-number By n 15 _ _ (Clock.tick-does k b c messages caller (min a 32)) (
+      by-number By n 16 _ _ (Semaphores.create-does k b c messages caller (min a 16)) (
+      by-number By n 17 _ _ (Semaphores.delete-does k b c messages caller (min a 16)) (
+      by-number By n 18 _ _ (Semaphores.get-does k b c messages caller (min a 16) b) (
+      by-number By n 19 _ _ (Semaphores.put-does k b c messages caller (min a 16)) (
+      by-number By n 20 _ _ (Semaphores.ceiling-does k b c messages caller (min a 16) b) (
+      by-number By n 21 _ _ (Semaphores.prioritize-does k b c messages caller (min a 16)) (
+      by-number By n 22 _ _ (Queues.create-does k b c messages caller (min a 8)) (
+      by-number By n 23 _ _ (Queues.delete-does k b c messages caller (min a 8)) (
+      by-number By n 24 _ _ (Queues.send-does k b c messages caller (min a 8) b) (
+      by-number By n 25 _ _ (Queues.front-does k b c messages caller (min a 8) b) (
+      by-number By n 26 _ _ (Queues.receive-does k b c messages caller (min a 8) b) (
+      by-number By n 27 _ _ (Queues.flush-does k b c messages caller (min a 8)) (
+      by-number By n 28 _ _ (Queues.prioritize-does k b c messages caller (min a 8)) (
+      by-number By n 29 _ _ (Groups.create-does k b c messages caller (min a 8)) (
+      by-number By n 30 _ _ (Groups.delete-does k b c messages caller (min a 8)) (
+      by-number By n 31 _ _ (Groups.set-does k b c messages caller (min a 8) b c) (
+      by-number By n 32 _ _ (Groups.get-does k b c messages caller (min a 8) b c d) (
+      by-number By n 33 _ _ (Pools.create-does k b c messages caller (min a 4)) (
+      by-number By n 34 _ _ (Pools.delete-does k b c messages caller (min a 4)) (
+      by-number By n 35 _ _ (Pools.allocate-does k b c messages caller (min a 4) b) (
+      by-number By n 36 _ _ (Pools.release-does k b c messages caller (min a 4)) (
+      by-number By n 37 _ _ (Pools.prioritize-does k b c messages caller (min a 4)) (
+      by-number By n 38 _ _ (Threads.state-does k b c messages caller (min a 32)) (
+      by-number By n 39 _ _ (Threads.words-does k b c messages caller (min a 32)) (
       tt)))))))))))))))))))))))))))))))))))))))
 
   decoded-does : (n : ℕ) → By n (if ltb 2 caller then Unknown else knownCall n a b c d)

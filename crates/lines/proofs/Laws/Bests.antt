@@ -10,7 +10,7 @@ use Rattle.lines.specs.Logic.{if_then_else_}
 use Rattle.lines.specs.Lists.{filter, count, first, firstWith, leastb, bestOf}
 use Rattle.lines.specs.Loops.{betterOf}
 use Rattle.lines.specs.declared.Best.{Best}
-use Rattle.lines.proofs.Laws.Logic.{by-test, by-eq, never, and-left, and-right, and-in}
+use Rattle.lines.proofs.Laws.Logic.{by-test, by-eq, and-left, and-right, and-in}
 use Rattle.lines.proofs.Laws.Lists.{first-here, first-later, first-holds, first-stands, first-known, first-some, filter-same, count-here, count-there}
 
 module _ (key : ℕ → ℕ) where

@@ -1,5 +1,5 @@
 -- The test of soundness thread by thread: each state has its own few tests, and a limit on priorities stands for the choice.
-use mathlib.Core.Path.{_≡_, refl, sym, ap, _∙_}
+use mathlib.Core.Path.{_≡_, sym, ap, _∙_}
 use mathlib.Core.Bool.{Bool, true, false, _&&_, _||_, not, and-true, and-false, and-assoc, or-true, or-false}
 use Prim.Native.Nat.{ℕ, _≤_, _<_}
 use native.Mathlib.Omega.{arith}
@@ -13,7 +13,7 @@ use Rattle.lines.proofs.Laws.Logic.{by-test, never, and-left, and-right, and-in
 use Rattle.lines.proofs.Laws.Slots.{same-test}
 use Rattle.scheduler.specs.declared.thread.Thread.{Thread}
 use Rattle.scheduler.specs.declared.Scheduler.{Scheduler}
-use Rattle.scheduler.specs.Threads.{uncreated, readyb, waitsb, pausedb, restsb, standsb}
+use Rattle.scheduler.specs.Threads.{readyb, waitsb, pausedb, restsb, standsb}
 use Rattle.scheduler.specs.Orders.{threadAt, priorityAt, thresholdAt, runner}
 use Rattle.scheduler.specs.Choice.{bestReady}
 use Rattle.scheduler.specs.Sound.{limitsb, markFitb, suspensionFitb, ticksFitb, objectFitb, fitb, countedb, steadyb, runsb, Steady, Runs, soundb}
