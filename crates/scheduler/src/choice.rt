@@ -4,7 +4,7 @@ ghost use mathlib.Core.Bool.{_&&_, _||_, not};
 ghost use Prim.Native.Nat.{_≤_};
 ghost use lib.Dec.{ltb};
 ghost use Rattle.numbers.specs.Numbers.{nobody};
-ghost use Rattle.scheduler.specs.Choice.{bestAmong, bestReady, bestMarked, replaced, dispatched, rescheduled, relinquished};
+ghost use Rattle.scheduler.specs.Choice.{bestAmong, bestReady, rescheduled, relinquished};
 ghost use Rattle.scheduler.specs.Loops.{wantedb, consideredOf};
 use super::Scheduler;
 use super::thread::Among;
@@ -28,11 +28,11 @@ fn considered(among: Among, x: ThreadId, th: Thread, b: Best) -> Best
     }
 }
 
-// Whether the best ready thread `h` overtakes thread `t`: there is one, and `t` is nobody or its threshold lets it pass.
-fn overtakes(h: ThreadId, head: Thread, t: ThreadId, th: Thread) -> bool
-    ensures { λ r. ⌜ r ≡ (ltb (h .0) nobody && (not (ltb (t .0) nobody) || ltb (head .priority) (th .threshold))) ⌝ }
+// Whether the best ready thread `h` of a priority overtakes thread `t`: there is one, and `t` is nobody or its threshold lets it pass.
+fn overtakes(h: ThreadId, priority: u8, t: ThreadId, threshold: u8) -> bool
+    ensures { λ r. ⌜ r ≡ (ltb (h .0) nobody && (not (ltb (t .0) nobody) || ltb priority threshold)) ⌝ }
 {
-    (h.0 < NOBODY) & (!(t.0 < NOBODY) | (head.priority < th.threshold))
+    (h.0 < NOBODY) & (!(t.0 < NOBODY) | (priority < threshold))
 }
 
 impl Scheduler {
@@ -65,62 +65,66 @@ impl Scheduler {
         self.best(Among::Ready)
     }
 
-    // The first marked thread of the best marked priority.
-    pub fn best_marked(self) -> ThreadId
-        ensures { λ r. ⌜ r .0 ≡ bestMarked self ⌝ }
-    {
-        self.best(Among::Marked)
-    }
-
-    // The runner, which another thread replaces, is marked where its threshold is below its priority.
-    fn replaced(mut self) -> Scheduler
-        ensures { λ r. ⌜ r ≡ replaced self ⌝ }
-    {
-        let r = self.running;
-        let i = r.0 as usize;
-        if i < THREADS {
-            let mut th = self.threads[i];
-            th.marked = th.threshold < th.priority;
-            self.threads[i] = th;
-        }
-        self
-    }
-
-    // Thread `t` runs, and its mark ends.
-    fn dispatched(mut self, t: ThreadId) -> Scheduler
-        ensures { λ r. ⌜ r ≡ dispatched self (t .0) ⌝ }
-    {
-        let i = t.0 as usize;
-        if i < THREADS {
-            let mut th = self.threads[i];
-            th.marked = false;
-            self.threads[i] = th;
-        }
-        self.running = t;
-        self
-    }
-
-    // The choice after a call.
-    pub fn rescheduled(self, relinquished: bool) -> Scheduler
+    // The choice after a call, made where the tables lie: one pass finds the best ready thread and the best marked one. A runner that stays,
+    // else the best marked thread, goes on unless the best ready thread overtakes it.
+    pub fn rescheduled(mut self, relinquished: bool) -> Scheduler
         ensures { λ r. ⌜ r ≡ rescheduled self relinquished ⌝ }
     {
-        let r = self.running;
-        let runner = self.thread_at(r);
-        let h = self.best_ready();
-        let head = self.thread_at(h);
-        let stays = runner.is_ready() & !relinquished;
-        if stays {
-            if overtakes(h, head, r, runner) {
-                return self.replaced().dispatched(h);
+        let o = self.order;
+        let ids = o.ids;
+        let mut i = o.size() as usize;
+        let mut ready = Best {
+            id: ThreadId(NOBODY),
+            key: LARGEST_KEY,
+        };
+        let mut marked = Best {
+            id: ThreadId(NOBODY),
+            key: LARGEST_KEY,
+        };
+        while 0 < i {
+            i -= 1;
+            let x = ThreadId(ids[i]);
+            let t = x.0 as usize;
+            if t < THREADS {
+                let th = self.threads[t];
+                ready = considered(Among::Ready, x, th, ready);
+                marked = considered(Among::Marked, x, th, marked);
             }
-            return self.dispatched(r);
         }
-        let p = self.best_marked();
-        let preempted = self.thread_at(p);
-        if overtakes(h, head, p, preempted) {
-            return self.dispatched(h);
+        let r = self.running;
+        let at = r.0 as usize;
+        let mut runner = Thread::uncreated();
+        if at < THREADS {
+            runner = self.threads[at];
         }
-        self.dispatched(p)
+        let stays = runner.is_ready() & !relinquished;
+        let mut next = marked.id;
+        if stays {
+            next = r;
+        }
+        let k = next.0 as usize;
+        let mut other = Thread::uncreated();
+        if k < THREADS {
+            other = self.threads[k];
+        }
+        let h = ready.id;
+        if overtakes(h, ready.key, next, other.threshold) {
+            if stays {
+                if at < THREADS {
+                    runner.marked = runner.threshold < runner.priority;
+                    self.threads[at] = runner;
+                }
+            }
+            next = h;
+        }
+        let n = next.0 as usize;
+        if n < THREADS {
+            let mut th = self.threads[n];
+            th.marked = false;
+            self.threads[n] = th;
+        }
+        self.running = next;
+        self
     }
 
     // The runner goes to the end of its order, and the choice is made as for one who gives up the processor.

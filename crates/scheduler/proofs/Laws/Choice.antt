@@ -1,10 +1,12 @@
 -- The choice after a call, case by case.
-use mathlib.Core.Path.{_≡_, refl, ap, _∙_}
+use mathlib.Core.Path.{_≡_, refl, sym, ap, _∙_}
 use mathlib.Core.Bool.{Bool, true, false, _&&_, _||_, not}
-use Prim.Native.Nat.{ℕ}
+use Prim.Native.Nat.{ℕ, _<_}
 use lib.Dec.{ltb}
+use borrow.Author.Tests.{ltb-true}
 use Rattle.numbers.specs.Numbers.{nobody}
 use Rattle.lines.specs.Logic.{if_then_else_}
+use Rattle.lines.proofs.Laws.Logic.{by-test}
 use Rattle.scheduler.specs.declared.thread.Thread.{Thread}
 use Rattle.scheduler.specs.declared.Scheduler.{Scheduler}
 use Rattle.scheduler.specs.Threads.{readyb}
@@ -36,14 +38,30 @@ module _ (s : Scheduler) (b : Bool) where
   pub marked-follows : staysb s b ≡ false → overtakesb s (bestMarked s) ≡ false → rescheduled s b ≡ dispatched s (bestMarked s)
   marked-follows e g = by-outcome false (overtakesb s (runner s)) false e refl g
 
--- ---- the tests on records that were read before
+-- ---- the choice on what was read before
 pub stays-from : (s : Scheduler) (b : Bool) (th : Thread) → th ≡ threadAt s (runner s) → (readyb th && not b) ≡ staysb s b
 unfolding staysb
 stays-from s b th e = ap (λ (x : Thread). readyb x && not b) e
 
-pub overtakes-from : (s : Scheduler) (t h u : ℕ) (head th : Thread) → h ≡ bestReady s → u ≡ t → head ≡ threadAt s h → th ≡ threadAt s u
-    → (ltb h nobody && (not (ltb u nobody) || ltb (head .priority) (th .threshold))) ≡ overtakesb s t
+-- the best ready thread's priority counts only where there is one
+pub overtakes-from : (s : Scheduler) (t h u p : ℕ) (th : Thread) → h ≡ bestReady s → u ≡ t → (bestReady s < 32 → p ≡ priorityAt s (bestReady s))
+    → th ≡ threadAt s u → (ltb h nobody && (not (ltb u nobody) || ltb p (th .threshold))) ≡ overtakesb s t
 unfolding overtakesb
-overtakes-from s t h u head th e f a b =
-    (λ i. ltb h nobody && (not (ltb u nobody) || ltb (a i .priority) (b i .threshold)))
-    ∙ (λ i. ltb (e i) nobody && (not (ltb (f i) nobody) || ltb (priorityAt s (e i)) (thresholdAt s (f i))))
+overtakes-from s t h u p th e f k a =
+    ap (λ (x : Thread). ltb h nobody && (not (ltb u nobody) || ltb p (x .threshold))) a
+    ∙ (λ i. ltb (e i) nobody && (not (ltb (f i) nobody) || ltb p (thresholdAt s (f i))))
+    ∙ by-test (ltb (bestReady s) nobody)
+    (λ w. let q = k (ltb-true (bestReady s) nobody w) in ap (λ (n : ℕ). ltb (bestReady s) nobody && (not (ltb t nobody) || ltb n (thresholdAt s t))) q)
+    (λ w. ap (λ (x : Bool). x && (not (ltb t nobody) || ltb p (thresholdAt s t))) w
+    ∙ sym (ap (λ (x : Bool). x && (not (ltb t nobody) || ltb (priorityAt s (bestReady s)) (thresholdAt s t))) w))
+
+-- thread t goes on unless it is overtaken: the runner where it stays, else the best marked thread
+module _ (s : Scheduler) (b : Bool) (t : ℕ) where
+  pub over-runs : (x : Bool) → staysb s b ≡ x → t ≡ (if x then runner s else bestMarked s) → overtakesb s t ≡ true
+      → rescheduled s b ≡ dispatched (if x then replaced s else s) (bestReady s)
+  over-runs true e f o = is-replaced s b e (ap (overtakesb s) (sym f) ∙ o)
+  over-runs false e f o = best-follows s b e (ap (overtakesb s) (sym f) ∙ o)
+
+  pub t-runs : (x : Bool) → staysb s b ≡ x → t ≡ (if x then runner s else bestMarked s) → overtakesb s t ≡ false → rescheduled s b ≡ dispatched s t
+  t-runs true e f o = goes-on s b e (ap (overtakesb s) (sym f) ∙ o) ∙ ap (dispatched s) (sym f)
+  t-runs false e f o = marked-follows s b e (ap (overtakesb s) (sym f) ∙ o) ∙ ap (dispatched s) (sym f)
