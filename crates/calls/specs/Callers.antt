@@ -4,6 +4,26 @@ use mathlib.Core.Bool.{Bool, true, false, _||_}
 use Prim.Native.Nat.{ℕ}
 use lib.Dec.{eqb}
 use Rattle.lines.specs.Logic.{if_then_else_}
+use Rattle.calls.specs.Services.{
+  threadCreate,
+  threadDelete,
+  threadTerminate,
+  threadReset,
+  threadFinish,
+  threadRelinquish,
+  threadSleep,
+  threadPriorityChange,
+  threadPreemptionChange,
+  tick,
+  semaphoreCreate,
+  semaphoreDelete,
+  queueCreate,
+  queueDelete,
+  eventFlagsCreate,
+  eventFlagsDelete,
+  blockPoolCreate,
+  blockPoolDelete,
+}
 
 -- rule 2.1: the caller is start-up
 abbrev pub startup : ℕ
@@ -37,17 +57,20 @@ oneOf n (m ∷ ms) = eqb n m || oneOf n ms
 
 -- rule 3.8: the creates: thread, semaphore, queue, event flags group, block pool
 abbrev pub creates : List ℕ
-creates = 1 ∷ 16 ∷ 22 ∷ 29 ∷ 33 ∷ []
+creates = threadCreate ∷ semaphoreCreate ∷ queueCreate ∷ eventFlagsCreate ∷ blockPoolCreate ∷ []
 
 -- rule 3.8: the calls for threads: delete, terminate, reset, finish, relinquish, sleep and both changes of a thread, and the deletes of
 -- objects
 abbrev pub threadCalls : List ℕ
-threadCalls = 2 ∷ 5 ∷ 6 ∷ 7 ∷ 8 ∷ 9 ∷ 11 ∷ 12 ∷ 17 ∷ 23 ∷ 30 ∷ 34 ∷ []
+threadCalls =
+    threadDelete ∷ threadTerminate ∷ threadReset ∷ threadFinish ∷ threadRelinquish ∷ threadSleep ∷
+    threadPriorityChange ∷ threadPreemptionChange ∷
+    semaphoreDelete ∷ queueDelete ∷ eventFlagsDelete ∷ blockPoolDelete ∷ []
 
 -- rule 3.8: whether a call of this number allows the caller: creates, calls for threads, the tick, and all others, which allow everybody
 unfoldable pub allowedb : ℕ → ℕ → Bool
 allowedb number caller =
     if oneOf number creates then startupOrThread caller
     else if oneOf number threadCalls then threadOnly caller
-    else if eqb number 15 then interruptOnly caller
+    else if eqb number tick then interruptOnly caller
     else true

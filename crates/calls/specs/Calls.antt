@@ -44,6 +44,47 @@ use Rattle.calls.specs.declared.call.Call.the-variants.{
   ThreadStateRead,
   ThreadWordsRead,
 }
+use Rattle.calls.specs.Services.{
+  threadCreate,
+  threadDelete,
+  threadResume,
+  threadSuspend,
+  threadTerminate,
+  threadReset,
+  threadFinish,
+  threadRelinquish,
+  threadSleep,
+  threadWaitAbort,
+  threadPriorityChange,
+  threadPreemptionChange,
+  timeGet,
+  timeSet,
+  tick,
+  semaphoreCreate,
+  semaphoreDelete,
+  semaphoreGet,
+  semaphorePut,
+  semaphoreCeilingPut,
+  semaphorePrioritize,
+  queueCreate,
+  queueDelete,
+  queueSend,
+  queueFrontSend,
+  queueReceive,
+  queueFlush,
+  queuePrioritize,
+  eventFlagsCreate,
+  eventFlagsDelete,
+  eventFlagsSet,
+  eventFlagsGet,
+  blockPoolCreate,
+  blockPoolDelete,
+  blockAllocate,
+  blockRelease,
+  blockPoolPrioritize,
+  threadStateRead,
+  threadWordsRead,
+}
 use Rattle.calls.specs.Callers.{thread}
 use Rattle.calls.specs.declared.call.Request.{Request}
 use Rattle.calls.specs.declared.call.Decoded.{Decoded}
@@ -56,45 +97,45 @@ blockNumber b = min b slots
 -- rule 2.1: the call of each number; arguments that it does not use are left out
 unfoldable pub knownCall : ℕ → ℕ → ℕ → ℕ → ℕ → Decoded
 knownCall n a b c d =
-    if eqb n 1 then Known (ThreadCreate (threadNumber a) b c d)
-    else if eqb n 2 then Known (ThreadDelete (threadNumber a))
-    else if eqb n 3 then Known (ThreadResume (threadNumber a))
-    else if eqb n 4 then Known (ThreadSuspend (threadNumber a))
-    else if eqb n 5 then Known (ThreadTerminate (threadNumber a))
-    else if eqb n 6 then Known (ThreadReset (threadNumber a))
-    else if eqb n 7 then Known ThreadFinish
-    else if eqb n 8 then Known ThreadRelinquish
-    else if eqb n 9 then Known (ThreadSleep a)
-    else if eqb n 10 then Known (ThreadWaitAbort (threadNumber a))
-    else if eqb n 11 then Known (ThreadPriorityChange (threadNumber a) b)
-    else if eqb n 12 then Known (ThreadPreemptionChange (threadNumber a) b)
-    else if eqb n 13 then Known TimeGet
-    else if eqb n 14 then Known (TimeSet a)
-    else if eqb n 15 then Known Tick
-    else if eqb n 16 then Known (SemaphoreCreate (semaphoreNumber a) b)
-    else if eqb n 17 then Known (SemaphoreDelete (semaphoreNumber a))
-    else if eqb n 18 then Known (SemaphoreGet (semaphoreNumber a) b)
-    else if eqb n 19 then Known (SemaphorePut (semaphoreNumber a))
-    else if eqb n 20 then Known (SemaphoreCeilingPut (semaphoreNumber a) b)
-    else if eqb n 21 then Known (SemaphorePrioritize (semaphoreNumber a))
-    else if eqb n 22 then Known (QueueCreate (queueNumber a) b c)
-    else if eqb n 23 then Known (QueueDelete (queueNumber a))
-    else if eqb n 24 then Known (QueueSend (queueNumber a) b c)
-    else if eqb n 25 then Known (QueueFrontSend (queueNumber a) b c)
-    else if eqb n 26 then Known (QueueReceive (queueNumber a) b)
-    else if eqb n 27 then Known (QueueFlush (queueNumber a))
-    else if eqb n 28 then Known (QueuePrioritize (queueNumber a))
-    else if eqb n 29 then Known (EventFlagsCreate (groupNumber a))
-    else if eqb n 30 then Known (EventFlagsDelete (groupNumber a))
-    else if eqb n 31 then Known (EventFlagsSet (groupNumber a) b c)
-    else if eqb n 32 then Known (EventFlagsGet (groupNumber a) b c d)
-    else if eqb n 33 then Known (BlockPoolCreate (poolNumber a) b c)
-    else if eqb n 34 then Known (BlockPoolDelete (poolNumber a))
-    else if eqb n 35 then Known (BlockAllocate (poolNumber a) b)
-    else if eqb n 36 then Known (BlockRelease (poolNumber a) (blockNumber b))
-    else if eqb n 37 then Known (BlockPoolPrioritize (poolNumber a))
-    else if eqb n 38 then Known (ThreadStateRead (threadNumber a))
-    else if eqb n 39 then Known (ThreadWordsRead (threadNumber a))
+    if eqb n threadCreate then Known (ThreadCreate (threadNumber a) b c d)
+    else if eqb n threadDelete then Known (ThreadDelete (threadNumber a))
+    else if eqb n threadResume then Known (ThreadResume (threadNumber a))
+    else if eqb n threadSuspend then Known (ThreadSuspend (threadNumber a))
+    else if eqb n threadTerminate then Known (ThreadTerminate (threadNumber a))
+    else if eqb n threadReset then Known (ThreadReset (threadNumber a))
+    else if eqb n threadFinish then Known ThreadFinish
+    else if eqb n threadRelinquish then Known ThreadRelinquish
+    else if eqb n threadSleep then Known (ThreadSleep a)
+    else if eqb n threadWaitAbort then Known (ThreadWaitAbort (threadNumber a))
+    else if eqb n threadPriorityChange then Known (ThreadPriorityChange (threadNumber a) b)
+    else if eqb n threadPreemptionChange then Known (ThreadPreemptionChange (threadNumber a) b)
+    else if eqb n timeGet then Known TimeGet
+    else if eqb n timeSet then Known (TimeSet a)
+    else if eqb n tick then Known Tick
+    else if eqb n semaphoreCreate then Known (SemaphoreCreate (semaphoreNumber a) b)
+    else if eqb n semaphoreDelete then Known (SemaphoreDelete (semaphoreNumber a))
+    else if eqb n semaphoreGet then Known (SemaphoreGet (semaphoreNumber a) b)
+    else if eqb n semaphorePut then Known (SemaphorePut (semaphoreNumber a))
+    else if eqb n semaphoreCeilingPut then Known (SemaphoreCeilingPut (semaphoreNumber a) b)
+    else if eqb n semaphorePrioritize then Known (SemaphorePrioritize (semaphoreNumber a))
+    else if eqb n queueCreate then Known (QueueCreate (queueNumber a) b c)
+    else if eqb n queueDelete then Known (QueueDelete (queueNumber a))
+    else if eqb n queueSend then Known (QueueSend (queueNumber a) b c)
+    else if eqb n queueFrontSend then Known (QueueFrontSend (queueNumber a) b c)
+    else if eqb n queueReceive then Known (QueueReceive (queueNumber a) b)
+    else if eqb n queueFlush then Known (QueueFlush (queueNumber a))
+    else if eqb n queuePrioritize then Known (QueuePrioritize (queueNumber a))
+    else if eqb n eventFlagsCreate then Known (EventFlagsCreate (groupNumber a))
+    else if eqb n eventFlagsDelete then Known (EventFlagsDelete (groupNumber a))
+    else if eqb n eventFlagsSet then Known (EventFlagsSet (groupNumber a) b c)
+    else if eqb n eventFlagsGet then Known (EventFlagsGet (groupNumber a) b c d)
+    else if eqb n blockPoolCreate then Known (BlockPoolCreate (poolNumber a) b c)
+    else if eqb n blockPoolDelete then Known (BlockPoolDelete (poolNumber a))
+    else if eqb n blockAllocate then Known (BlockAllocate (poolNumber a) b)
+    else if eqb n blockRelease then Known (BlockRelease (poolNumber a) (blockNumber b))
+    else if eqb n blockPoolPrioritize then Known (BlockPoolPrioritize (poolNumber a))
+    else if eqb n threadStateRead then Known (ThreadStateRead (threadNumber a))
+    else if eqb n threadWordsRead then Known (ThreadWordsRead (threadNumber a))
     else Unknown
 
 -- rules 2.1, 2.6: a request is for a known call, or it is unknown for its number or its caller

@@ -3,6 +3,7 @@
 use mathlib.Core.Bool.{Bool, _&&_, _||_, not}
 use Prim.Native.Nat.{ℕ, _+_}
 use lib.Dec.{eqb, ltb, leb}
+use Rattle.numbers.specs.Numbers.{nobody, priorities, semaphores, queues, groups, pools}
 use Rattle.lines.specs.Logic.{if_then_else_}
 use Rattle.scheduler.specs.declared.thread.Thread.{Thread}
 use Rattle.scheduler.specs.Threads.{suspended, pausedb, finishedb}
@@ -32,8 +33,8 @@ mayWaitb wait caller = eqb wait 0 || eqb caller thread
 -- 1 create: 0E 0F 18 10 13
 unfoldable pub createRefusal : ℕ → Thread → ℕ → ℕ → ℕ → ℕ → ℕ
 createRefusal t th p h start caller =
-    firstOf (unless (ltb t 32 && not (th .created)) Statuses.threadError)
-    (firstOf (unless (ltb p 32) Statuses.priorityError)
+    firstOf (unless (ltb t nobody && not (th .created)) Statuses.threadError)
+    (firstOf (unless (ltb p priorities) Statuses.priorityError)
     (firstOf (unless (leb h p) Statuses.threshError)
     (firstOf (unless (ltb start 2) Statuses.startError)
     (unless (startupOrThread caller) Statuses.callerError))))
@@ -84,7 +85,7 @@ abortRefusal th =
 unfoldable pub priorityRefusal : Thread → ℕ → ℕ → ℕ
 priorityRefusal th p caller =
     firstOf (unless (th .created) Statuses.threadError)
-    (firstOf (unless (ltb p 32) Statuses.priorityError)
+    (firstOf (unless (ltb p priorities) Statuses.priorityError)
     (unless (threadOnly caller) Statuses.callerError))
 
 -- 12 preemption change: 0E 18 13, the threshold against the thread's present priority
@@ -106,7 +107,7 @@ readRefusal th = unless (th .created) Statuses.threadError
 -- 16 create: 0C 13
 unfoldable pub semaphoreCreateRefusal : ℕ → Semaphore → ℕ → ℕ
 semaphoreCreateRefusal n x caller =
-    firstOf (unless (ltb n 16 && not (x .created)) Statuses.semaphoreError)
+    firstOf (unless (ltb n semaphores && not (x .created)) Statuses.semaphoreError)
     (unless (startupOrThread caller) Statuses.callerError)
 
 -- 17 delete: 0C 13
@@ -137,7 +138,7 @@ ceilingRefusal x ceiling =
 -- 22 create: 09 05 13
 unfoldable pub queueCreateRefusal : ℕ → Queue → ℕ → ℕ → ℕ → ℕ
 queueCreateRefusal n q words storage caller =
-    firstOf (unless (ltb n 8 && not (q .created)) Statuses.queueError)
+    firstOf (unless (ltb n queues && not (q .created)) Statuses.queueError)
     (firstOf (unless (sizesFitb words storage) Statuses.sizeError)
     (unless (startupOrThread caller) Statuses.callerError))
 
@@ -170,7 +171,7 @@ queueRefusal q = unless (q .created) Statuses.queueError
 -- 29 create: 06 13
 unfoldable pub groupCreateRefusal : ℕ → Group → ℕ → ℕ
 groupCreateRefusal n g caller =
-    firstOf (unless (ltb n 8 && not (g .created)) Statuses.groupError)
+    firstOf (unless (ltb n groups && not (g .created)) Statuses.groupError)
     (unless (startupOrThread caller) Statuses.callerError)
 
 -- 30 delete: 06 13
@@ -197,7 +198,7 @@ getRefusal g request option wait caller =
 -- 33 create: 02 05 13
 unfoldable pub poolCreateRefusal : ℕ → Pool → ℕ → ℕ → ℕ → ℕ
 poolCreateRefusal n p block total caller =
-    firstOf (unless (ltb n 4 && not (p .created)) Statuses.poolError)
+    firstOf (unless (ltb n pools && not (p .created)) Statuses.poolError)
     (firstOf (unless (blockSizesb block total) Statuses.sizeError)
     (unless (startupOrThread caller) Statuses.callerError))
 

@@ -1,23 +1,24 @@
 -- What a thread holds: the status and words that its last wait left it, and what it waits for.
 use mathlib.Core.List.{List, _∷_}
 use mathlib.Core.Bool.{Bool, true, false}
-use Prim.Native.Nat.{ℕ}
+use Prim.Native.Nat.{ℕ, _-_}
 use lib.ListN.{replicate}
+use Rattle.numbers.specs.Numbers.{messageWords}
 use Rattle.lines.specs.Logic.{if_then_else_}
 use Rattle.calls.specs.declared.held.Held.{Held}
 use Rattle.calls.specs.Statuses as Statuses
 
 -- sixteen zero words
 abbrev pub noWords : List ℕ
-noWords = replicate 16 0
+noWords = replicate messageWords 0
 
 -- sixteen words of which word 0 is given, the others zero
 abbrev pub oneWord : ℕ → List ℕ
-oneWord w = w ∷ replicate 15 0
+oneWord w = w ∷ replicate (messageWords - 1) 0
 
 -- sixteen words of which words 0 and 1 are given, the others zero
 abbrev pub twoWords : ℕ → ℕ → List ℕ
-twoWords v w = v ∷ w ∷ replicate 14 0
+twoWords v w = v ∷ w ∷ replicate (messageWords - 2) 0
 
 -- rule 5.4: a status and words, and nothing waited for
 unfoldable pub holding : ℕ → List ℕ → Held

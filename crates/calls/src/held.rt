@@ -2,6 +2,7 @@
 ghost use mathlib.Core.Path.{_≡_};
 ghost use Rattle.calls.specs.Held.{holding, sending, requesting, heldWords, messageOf};
 use super::status::WAITING;
+use numbers::MESSAGE_WORDS;
 
 // `words` are those that the last wait left or, of a waiting sender, its message: no thread has both. `sending` and `front` are a waiting
 // sender's, `request` and `option` those of a thread that waits for flags. The bytes stand behind the words, so that a record is copied by
@@ -9,7 +10,7 @@ use super::status::WAITING;
 pub struct Held {
     pub status: u32,
     pub request: u32,
-    pub words: [u32; 16],
+    pub words: [u32; MESSAGE_WORDS],
     pub sending: bool,
     pub front: bool,
     pub option: u8,
@@ -17,7 +18,7 @@ pub struct Held {
 
 impl Held {
     // A status and words, and nothing waited for.
-    pub fn of(status: u32, words: [u32; 16]) -> Held
+    pub fn of(status: u32, words: [u32; MESSAGE_WORDS]) -> Held
         ensures { λ r. ⌜ r ≡ holding status words ⌝ }
     {
         Held {
@@ -31,7 +32,7 @@ impl Held {
     }
 
     // A sender waits with its message, sixteen words by value.
-    pub fn sender(front: bool, message: [u32; 16]) -> Held
+    pub fn sender(front: bool, message: [u32; MESSAGE_WORDS]) -> Held
         ensures { λ r. ⌜ r ≡ sending front message ⌝ }
     {
         Held {
@@ -50,7 +51,7 @@ impl Held {
     {
         Held {
             status: WAITING,
-            words: [0; 16],
+            words: [0; MESSAGE_WORDS],
             sending: false,
             front: false,
             request,
@@ -59,16 +60,24 @@ impl Held {
     }
 
     // The words that the last wait left: zero while the thread waits as a sender.
-    pub fn held_words(self) -> [u32; 16]
+    pub fn held_words(self) -> [u32; MESSAGE_WORDS]
         ensures { λ r. ⌜ r ≡ heldWords self ⌝ }
     {
-        if self.sending { [0; 16] } else { self.words }
+        if self.sending {
+            [0; MESSAGE_WORDS]
+        } else {
+            self.words
+        }
     }
 
     // The message of a waiting sender, zero words of any other thread.
-    pub fn message(self) -> [u32; 16]
+    pub fn message(self) -> [u32; MESSAGE_WORDS]
         ensures { λ r. ⌜ r ≡ messageOf self ⌝ }
     {
-        if self.sending { self.words } else { [0; 16] }
+        if self.sending {
+            self.words
+        } else {
+            [0; MESSAGE_WORDS]
+        }
     }
 }

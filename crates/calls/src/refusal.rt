@@ -32,6 +32,12 @@ use super::status::WAIT_ABORT_ERROR;
 use super::status::WAIT_ERROR;
 use blocks::pool::Pool;
 use numbers::GroupId;
+use numbers::NO_GROUP;
+use numbers::NO_POOL;
+use numbers::NO_QUEUE;
+use numbers::NO_SEMAPHORE;
+use numbers::NOBODY;
+use numbers::PRIORITIES;
 use numbers::PoolId;
 use numbers::QueueId;
 use numbers::SemaphoreId;
@@ -71,9 +77,9 @@ pub fn create(
     ensures { λ r. ⌜ r ≡ createRefusal (t .0) th priority threshold start caller ⌝ }
 {
     first(
-        unless((t.0 < 32) & !th.created, THREAD_ERROR),
+        unless((t.0 < NOBODY) & !th.created, THREAD_ERROR),
         first(
-            unless(priority < 32, PRIORITY_ERROR),
+            unless(priority < PRIORITIES, PRIORITY_ERROR),
             first(
                 unless(threshold <= priority, THRESH_ERROR),
                 first(
@@ -164,7 +170,7 @@ pub fn priority_change(th: Thread, priority: u32, caller: u32) -> u32
     first(
         unless(th.created, THREAD_ERROR),
         first(
-            unless(priority < 32, PRIORITY_ERROR),
+            unless(priority < PRIORITIES, PRIORITY_ERROR),
             unless(caller == THREAD, CALLER_ERROR),
         ),
     )
@@ -199,7 +205,7 @@ pub fn semaphore_create(n: SemaphoreId, x: Semaphore, caller: u32) -> u32
     ensures { λ r. ⌜ r ≡ semaphoreCreateRefusal (n .0) x caller ⌝ }
 {
     first(
-        unless((n.0 < 16) & !x.created, SEMAPHORE_ERROR),
+        unless((n.0 < NO_SEMAPHORE) & !x.created, SEMAPHORE_ERROR),
         unless((caller == STARTUP) | (caller == THREAD), CALLER_ERROR),
     )
 }
@@ -248,7 +254,7 @@ pub fn queue_create(n: QueueId, q: Queue, words: u32, storage: u32, caller: u32)
     ensures { λ r. ⌜ r ≡ queueCreateRefusal (n .0) q words storage caller ⌝ }
 {
     first(
-        unless((n.0 < 8) & !q.created, QUEUE_ERROR),
+        unless((n.0 < NO_QUEUE) & !q.created, QUEUE_ERROR),
         first(
             unless(sizes_fit(words, storage), SIZE_ERROR),
             unless((caller == STARTUP) | (caller == THREAD), CALLER_ERROR),
@@ -304,7 +310,7 @@ pub fn group_create(n: GroupId, g: Group, caller: u32) -> u32
     ensures { λ r. ⌜ r ≡ groupCreateRefusal (n .0) g caller ⌝ }
 {
     first(
-        unless((n.0 < 8) & !g.created, GROUP_ERROR),
+        unless((n.0 < NO_GROUP) & !g.created, GROUP_ERROR),
         unless((caller == STARTUP) | (caller == THREAD), CALLER_ERROR),
     )
 }
@@ -349,7 +355,7 @@ pub fn pool_create(n: PoolId, p: Pool, block: u32, total: u32, caller: u32) -> u
     ensures { λ r. ⌜ r ≡ poolCreateRefusal (n .0) p block total caller ⌝ }
 {
     first(
-        unless((n.0 < 4) & !p.created, POOL_ERROR),
+        unless((n.0 < NO_POOL) & !p.created, POOL_ERROR),
         first(
             unless(blocks::pool::sizes_fit(block, total), SIZE_ERROR),
             unless((caller == STARTUP) | (caller == THREAD), CALLER_ERROR),

@@ -10,6 +10,7 @@ use Rattle.lines.specs.Lists.{filter}
 use Rattle.scheduler.specs.Orders.{lineAt}
 use Rattle.blocks.specs.Pools.{blocksOf, freeBlocks}
 use Rattle.scheduler.specs.Threads.{finishedb}
+use Rattle.calls.specs.Services.{semaphoreCreate, blockPoolCreate}
 use Rattle.calls.specs.Statuses as Statuses
 use Rattle.kernel.specs.declared.Kernel.{Kernel}
 use Rattle.kernel.specs.Tables.{threadOf, heldAt, semaphoreAt, poolAt}
@@ -66,15 +67,15 @@ pub record PoolAccount (n start : ℕ) (k : Kernel) (ms : List Made) : Type 0 wh
 -- rule 13.5: the accounts hold of every list of calls in which no delete of the object is done
 pub record Accounts : Type 0 where
   -- call 16 creates a semaphore with a start of 32 bits
-  pub semaphore : (k : Kernel) → Sound k → (m : Made) → m .request .number ≡ 16 → m .request .b < 4294967296
+  pub semaphore : (k : Kernel) → Sound k → (m : Made) → m .request .number ≡ semaphoreCreate → m .request .b < 4294967296
       → succeedsb (answer k m) ≡ true → (ms : List Made) → Undeleted Kind.semaphore (m .request .a) (next k m) ms
       → SemaphoreAccount (m .request .a) (m .request .b) (next k m) ms
   -- call 33 creates a pool, all of whose blocks are free
-  pub pool : (k : Kernel) → Sound k → (m : Made) → m .request .number ≡ 33 → succeedsb (answer k m) ≡ true
+  pub pool : (k : Kernel) → Sound k → (m : Made) → m .request .number ≡ blockPoolCreate → succeedsb (answer k m) ≡ true
       → (ms : List Made) → Undeleted Kind.pool (m .request .a) (next k m) ms
       → PoolAccount (m .request .a) (blocksOf (poolAt (next k m) (m .request .a))) (next k m) ms
   -- rule 10.1: its blocks are those of the call's arguments
-  pub poolTotal : (k : Kernel) → Sound k → (m : Made) → m .request .number ≡ 33 → succeedsb (answer k m) ≡ true
+  pub poolTotal : (k : Kernel) → Sound k → (m : Made) → m .request .number ≡ blockPoolCreate → succeedsb (answer k m) ≡ true
       → blocksOf (poolAt (next k m) (m .request .a)) ≡ m .request .c / (m .request .b + 4)
   -- from any sound tables in which it is created a semaphore has its present count for a start
   pub semaphoreFrom : (k : Kernel) → Sound k → (n : ℕ) → semaphoreAt k n .created ≡ true → semaphoreAt k n .count < 4294967296

@@ -8,6 +8,7 @@ use lib.Dec.{eqb, ltb}
 use Rattle.lines.specs.Logic.{if_then_else_, oneIf}
 use Rattle.lines.specs.Lists.{count, Begins}
 use Rattle.scheduler.specs.Orders.{lineAt}
+use Rattle.calls.specs.Services.{threadTerminate, threadWaitAbort, tick}
 use Rattle.calls.specs.Held.{heldWords}
 use Rattle.calls.specs.Statuses as Statuses
 use Rattle.waiting.specs.Ticks.{forever}
@@ -83,8 +84,8 @@ ticked e =
 unfoldable pub strikeOut : Kind → ℕ → Made → List Entry → List Entry
 strikeOut d n m r =
     if givesb d n m then rest r
-    else if eqb (m .request .number) 5 || eqb (m .request .number) 10 then each (unnamed (m .request .a)) r
-    else if eqb (m .request .number) 15 then each ticked r
+    else if eqb (m .request .number) threadTerminate || eqb (m .request .number) threadWaitAbort then each (unnamed (m .request .a)) r
+    else if eqb (m .request .number) tick then each ticked r
     else r
 
 -- rule 13.2: the roll after a call with an answer

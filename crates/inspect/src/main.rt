@@ -3,6 +3,7 @@
 use calls::call::Request;
 use kernel::Answer;
 use kernel::Kernel;
+use numbers::MESSAGE_WORDS;
 use numbers::ThreadId;
 use output::flush;
 use output::put_byte;
@@ -47,7 +48,7 @@ fn put_result(
     status: u32,
     next: ThreadId,
     ended: u32,
-    words: &[u32; 16],
+    words: &[u32; MESSAGE_WORDS],
 ) -> usize {
     let at = put_answer(buf, at, status, next, ended);
     let at = put_byte(buf, at, b' ');

@@ -5,6 +5,7 @@ use mathlib.Core.Bool.{Bool, _&&_, not}
 use Prim.Native.Nat.{ℕ}
 use lib.Dec.{eqb, ltb}
 use lib.ListN.{length}
+use Rattle.numbers.specs.Numbers.{nobody}
 use Rattle.lines.specs.Logic.{if_then_else_}
 use Rattle.calls.specs.Callers.{thread}
 use Rattle.calls.specs.Statuses as Statuses
@@ -130,7 +131,7 @@ chainOf k caller (ThreadWordsRead t) messages = readRefusal (threadOf k (t .0))
 
 -- a thread calls and nobody runs
 abbrev pub nobodyRunsb : ℕ → ℕ → Bool
-nobodyRunsb caller running = eqb caller thread && not (ltb running 32)
+nobodyRunsb caller running = eqb caller thread && not (ltb running nobody)
 
 -- that reason comes before the chain
 unfoldable pub chained : Kernel → ℕ → Call → List ℕ → ℕ

@@ -11,6 +11,41 @@ use Rattle.scheduler.specs.Threads.{suspended, pausedb, finishedb}
 use Rattle.objects.specs.Queues.{emptyb, roomb, sizesFitb}
 use Rattle.objects.specs.Groups.{metb}
 use Rattle.blocks.specs.Pools.{blockSizesb, usedb}
+use Rattle.calls.specs.Services.{
+  threadCreate,
+  threadDelete,
+  threadResume,
+  threadSuspend,
+  threadTerminate,
+  threadReset,
+  threadWaitAbort,
+  threadPriorityChange,
+  threadPreemptionChange,
+  semaphoreCreate,
+  semaphoreDelete,
+  semaphoreGet,
+  semaphorePut,
+  semaphoreCeilingPut,
+  semaphorePrioritize,
+  queueCreate,
+  queueDelete,
+  queueSend,
+  queueFrontSend,
+  queueReceive,
+  queueFlush,
+  queuePrioritize,
+  eventFlagsCreate,
+  eventFlagsDelete,
+  eventFlagsSet,
+  eventFlagsGet,
+  blockPoolCreate,
+  blockPoolDelete,
+  blockAllocate,
+  blockRelease,
+  blockPoolPrioritize,
+  threadStateRead,
+  threadWordsRead,
+}
 use Rattle.calls.specs.Callers.{thread, oneOf, allowedb}
 use Rattle.calls.specs.Calls.{blockNumber}
 use Rattle.calls.specs.Statuses as Statuses
@@ -75,54 +110,60 @@ refusals =
     -- rule 2.6: a thread calls and nobody runs
     row Statuses.nobodyRuns every (λ k q m. eqb (q .caller) thread && not (ltb (runnerOf k) nobody)) ∷
     -- rule 3.1: the number of a thread, semaphore, queue, group or pool, at its create and at every other call on it
-    row Statuses.threadError (of (1 ∷ [])) threadTakenb ∷
-    row Statuses.threadError (of (2 ∷ 3 ∷ 4 ∷ 5 ∷ 6 ∷ 10 ∷ 11 ∷ 12 ∷ 38 ∷ 39 ∷ [])) noThreadb ∷
-    row Statuses.semaphoreError (of (16 ∷ [])) (takenb semaphore) ∷
-    row Statuses.semaphoreError (of (17 ∷ 18 ∷ 19 ∷ 20 ∷ 21 ∷ [])) (noObjectb semaphore) ∷
-    row Statuses.queueError (of (22 ∷ [])) (takenb queue) ∷
-    row Statuses.queueError (of (23 ∷ 24 ∷ 25 ∷ 26 ∷ 27 ∷ 28 ∷ [])) (noObjectb queue) ∷
-    row Statuses.groupError (of (29 ∷ [])) (takenb group) ∷
-    row Statuses.groupError (of (30 ∷ 31 ∷ 32 ∷ [])) (noObjectb group) ∷
-    row Statuses.poolError (of (33 ∷ [])) (takenb pool) ∷
-    row Statuses.poolError (of (34 ∷ 35 ∷ 36 ∷ 37 ∷ [])) (noObjectb pool) ∷
+    row Statuses.threadError (of (threadCreate ∷ [])) threadTakenb ∷
+    row Statuses.threadError
+    (of (threadDelete ∷ threadResume ∷ threadSuspend ∷ threadTerminate ∷ threadReset ∷ threadWaitAbort ∷
+    threadPriorityChange ∷ threadPreemptionChange ∷ threadStateRead ∷ threadWordsRead ∷ []))
+    noThreadb ∷
+    row Statuses.semaphoreError (of (semaphoreCreate ∷ [])) (takenb semaphore) ∷
+    row Statuses.semaphoreError
+    (of (semaphoreDelete ∷ semaphoreGet ∷ semaphorePut ∷ semaphoreCeilingPut ∷ semaphorePrioritize ∷ [])) (noObjectb semaphore) ∷
+    row Statuses.queueError (of (queueCreate ∷ [])) (takenb queue) ∷
+    row Statuses.queueError
+    (of (queueDelete ∷ queueSend ∷ queueFrontSend ∷ queueReceive ∷ queueFlush ∷ queuePrioritize ∷ [])) (noObjectb queue) ∷
+    row Statuses.groupError (of (eventFlagsCreate ∷ [])) (takenb group) ∷
+    row Statuses.groupError (of (eventFlagsDelete ∷ eventFlagsSet ∷ eventFlagsGet ∷ [])) (noObjectb group) ∷
+    row Statuses.poolError (of (blockPoolCreate ∷ [])) (takenb pool) ∷
+    row Statuses.poolError (of (blockPoolDelete ∷ blockAllocate ∷ blockRelease ∷ blockPoolPrioritize ∷ [])) (noObjectb pool) ∷
     -- rule 3.2: a priority over 31; a threshold over the priority, at preemption change the present one; a start other than 0 and 1
-    row Statuses.priorityError (of (1 ∷ 11 ∷ [])) (λ k q m. leb priorities (q .b)) ∷
-    row Statuses.threshError (of (1 ∷ [])) (λ k q m. ltb (q .b) (q .c)) ∷
-    row Statuses.threshError (of (12 ∷ [])) (λ k q m. ltb (threadOf k (named q) .priority) (q .b)) ∷
-    row Statuses.startError (of (1 ∷ [])) (λ k q m. not (eqb (q .d) 0 || eqb (q .d) 1)) ∷
+    row Statuses.priorityError (of (threadCreate ∷ threadPriorityChange ∷ [])) (λ k q m. leb priorities (q .b)) ∷
+    row Statuses.threshError (of (threadCreate ∷ [])) (λ k q m. ltb (q .b) (q .c)) ∷
+    row Statuses.threshError (of (threadPreemptionChange ∷ [])) (λ k q m. ltb (threadOf k (named q) .priority) (q .b)) ∷
+    row Statuses.startError (of (threadCreate ∷ [])) (λ k q m. not (eqb (q .d) 0 || eqb (q .d) 1)) ∷
     -- rule 3.3: sizes of a queue's messages and storage, or of a pool's blocks and area, that do not fit
-    row Statuses.sizeError (of (22 ∷ [])) (λ k q m. not (sizesFitb (q .b) (q .c))) ∷
-    row Statuses.sizeError (of (33 ∷ [])) (λ k q m. not (blockSizesb (q .b) (q .c))) ∷
+    row Statuses.sizeError (of (queueCreate ∷ [])) (λ k q m. not (sizesFitb (q .b) (q .c))) ∷
+    row Statuses.sizeError (of (blockPoolCreate ∷ [])) (λ k q m. not (blockSizesb (q .b) (q .c))) ∷
     -- rule 3.4: an option of set other than 0 and 2, one of get over 3
-    row Statuses.optionError (of (31 ∷ [])) (λ k q m. not (eqb (q .c) 0 || eqb (q .c) 2)) ∷
-    row Statuses.optionError (of (32 ∷ [])) (λ k q m. ltb 3 (q .c)) ∷
+    row Statuses.optionError (of (eventFlagsSet ∷ [])) (λ k q m. not (eqb (q .c) 0 || eqb (q .c) 2)) ∷
+    row Statuses.optionError (of (eventFlagsGet ∷ [])) (λ k q m. ltb 3 (q .c)) ∷
     -- rule 3.5: a ceiling of 0
-    row Statuses.invalidCeiling (of (20 ∷ [])) (λ k q m. eqb (q .b) 0) ∷
+    row Statuses.invalidCeiling (of (semaphoreCeilingPut ∷ [])) (λ k q m. eqb (q .b) 0) ∷
     -- rule 3.6: a message that does not lie wholly inside the lent words; a block that is out of range or free
-    row Statuses.ptrError (of (24 ∷ 25 ∷ [])) (λ k q m. ltb (length m) (q .c + queueAt k (named q) .words)) ∷
-    row Statuses.ptrError (of (36 ∷ [])) (λ k q m. not (usedb (poolAt k (named q)) (blockNumber (q .b)))) ∷
+    row Statuses.ptrError (of (queueSend ∷ queueFrontSend ∷ [])) (λ k q m. ltb (length m) (q .c + queueAt k (named q) .words)) ∷
+    row Statuses.ptrError (of (blockRelease ∷ [])) (λ k q m. not (usedb (poolAt k (named q)) (blockNumber (q .b)))) ∷
     -- rule 3.7: a wait that is not 0 by a caller that is no thread; the get of flags has its wait last
-    row Statuses.waitError (of (18 ∷ 24 ∷ 25 ∷ 26 ∷ 35 ∷ [])) (λ k q m. strangerWaitsb (q .b) q) ∷
-    row Statuses.waitError (of (32 ∷ [])) (λ k q m. strangerWaitsb (q .d) q) ∷
+    row Statuses.waitError (of (semaphoreGet ∷ queueSend ∷ queueFrontSend ∷ queueReceive ∷ blockAllocate ∷ []))
+    (λ k q m. strangerWaitsb (q .b) q) ∷
+    row Statuses.waitError (of (eventFlagsGet ∷ [])) (λ k q m. strangerWaitsb (q .d) q) ∷
     -- rule 3.8: a caller that the call does not allow
     row Statuses.callerError every (λ k q m. not (allowedb (q .number) (q .caller))) ∷
     -- rule 3.9: delete and reset of a thread that is neither completed nor terminated
-    row Statuses.deleteError (of (2 ∷ [])) (λ k q m. not (overb k q)) ∷
-    row Statuses.notDone (of (6 ∷ [])) (λ k q m. not (overb k q)) ∷
+    row Statuses.deleteError (of (threadDelete ∷ [])) (λ k q m. not (overb k q)) ∷
+    row Statuses.notDone (of (threadReset ∷ [])) (λ k q m. not (overb k q)) ∷
     -- rule 3.10: resume of a thread that is not suspended and holds no suspension; suspend of one that is completed or terminated; wait
     -- abort of one that neither waits nor sleeps
-    row Statuses.resumeError (of (3 ∷ []))
+    row Statuses.resumeError (of (threadResume ∷ []))
     (λ k q m. not (eqb (threadOf k (named q) .state) suspended || threadOf k (named q) .suspending)) ∷
-    row Statuses.suspendError (of (4 ∷ [])) (λ k q m. overb k q) ∷
-    row Statuses.waitAbortError (of (10 ∷ [])) (λ k q m. not (pausedb (threadOf k (named q)))) ∷
+    row Statuses.suspendError (of (threadSuspend ∷ [])) (λ k q m. overb k q) ∷
+    row Statuses.waitAbortError (of (threadWaitAbort ∷ [])) (λ k q m. not (pausedb (threadOf k (named q)))) ∷
     -- rule 3.11: a count at or over the ceiling
-    row Statuses.ceilingExceeded (of (20 ∷ [])) (λ k q m. leb (q .b) (semaphoreAt k (named q) .count)) ∷
+    row Statuses.ceilingExceeded (of (semaphoreCeilingPut ∷ [])) (λ k q m. leb (q .b) (semaphoreAt k (named q) .count)) ∷
     -- rule 3.12: a wait of 0, and no instance, no message, no room, flags that do not meet the request, no free block
-    row Statuses.noInstance (of (18 ∷ [])) (λ k q m. eqb (q .b) 0 && eqb (semaphoreAt k (named q) .count) 0) ∷
-    row Statuses.queueEmpty (of (26 ∷ [])) (λ k q m. eqb (q .b) 0 && emptyb (queueAt k (named q))) ∷
-    row Statuses.queueFull (of (24 ∷ 25 ∷ [])) (λ k q m. eqb (q .b) 0 && not (roomb (queueAt k (named q)))) ∷
-    row Statuses.noEvents (of (32 ∷ [])) (λ k q m. eqb (q .d) 0 && not (metb (groupAt k (named q) .flags) (q .b) (q .c))) ∷
-    row Statuses.noMemory (of (35 ∷ [])) (λ k q m. eqb (q .b) 0 && eqb (poolAt k (named q) .free) 0) ∷
+    row Statuses.noInstance (of (semaphoreGet ∷ [])) (λ k q m. eqb (q .b) 0 && eqb (semaphoreAt k (named q) .count) 0) ∷
+    row Statuses.queueEmpty (of (queueReceive ∷ [])) (λ k q m. eqb (q .b) 0 && emptyb (queueAt k (named q))) ∷
+    row Statuses.queueFull (of (queueSend ∷ queueFrontSend ∷ [])) (λ k q m. eqb (q .b) 0 && not (roomb (queueAt k (named q)))) ∷
+    row Statuses.noEvents (of (eventFlagsGet ∷ [])) (λ k q m. eqb (q .d) 0 && not (metb (groupAt k (named q) .flags) (q .b) (q .c))) ∷
+    row Statuses.noMemory (of (blockAllocate ∷ [])) (λ k q m. eqb (q .b) 0 && eqb (poolAt k (named q) .free) 0) ∷
     []
 
 -- ---- the first reason

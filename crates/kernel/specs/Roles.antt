@@ -6,6 +6,34 @@ use lib.Dec.{eqb, ltb}
 use Rattle.numbers.specs.Numbers.{threads}
 use Rattle.lines.specs.Logic.{if_then_else_, implies}
 use Rattle.scheduler.specs.Threads.{onQueue}
+use Rattle.calls.specs.Services.{
+  threadTerminate,
+  threadWaitAbort,
+  timeSet,
+  tick,
+  semaphoreCreate,
+  semaphoreDelete,
+  semaphoreGet,
+  semaphorePut,
+  semaphoreCeilingPut,
+  semaphorePrioritize,
+  queueCreate,
+  queueDelete,
+  queueSend,
+  queueFrontSend,
+  queueReceive,
+  queueFlush,
+  queuePrioritize,
+  eventFlagsCreate,
+  eventFlagsDelete,
+  eventFlagsSet,
+  eventFlagsGet,
+  blockPoolCreate,
+  blockPoolDelete,
+  blockAllocate,
+  blockRelease,
+  blockPoolPrioritize,
+}
 use Rattle.calls.specs.Callers.{oneOf}
 use Rattle.kernel.specs.Kinds.{Kind, sizeOf}
 use Rattle.kernel.specs.Kinds.Kind.{semaphore, queue, group, pool}
@@ -26,13 +54,41 @@ pub record Row : Type 0 where
 -- rules 2.11, 13.2: these calls of each kind, by number
 abbrev pub rowOf : Kind → Row
 rowOf semaphore =
-    record { creates = 16 ∷ []; deletes = 17 ∷ []; takes = 18 ∷ []; gives = 19 ∷ 20 ∷ []; prioritises = 21 ∷ []; empties = [] }
+    record {
+      creates = semaphoreCreate ∷ [];
+      deletes = semaphoreDelete ∷ [];
+      takes = semaphoreGet ∷ [];
+      gives = semaphorePut ∷ semaphoreCeilingPut ∷ [];
+      prioritises = semaphorePrioritize ∷ [];
+      empties = [];
+    }
 rowOf queue =
-    record { creates = 22 ∷ []; deletes = 23 ∷ []; takes = 26 ∷ []; gives = 24 ∷ 25 ∷ []; prioritises = 28 ∷ []; empties = 27 ∷ [] }
+    record {
+      creates = queueCreate ∷ [];
+      deletes = queueDelete ∷ [];
+      takes = queueReceive ∷ [];
+      gives = queueSend ∷ queueFrontSend ∷ [];
+      prioritises = queuePrioritize ∷ [];
+      empties = queueFlush ∷ [];
+    }
 rowOf group =
-    record { creates = 29 ∷ []; deletes = 30 ∷ []; takes = 32 ∷ []; gives = 31 ∷ []; prioritises = []; empties = [] }
+    record {
+      creates = eventFlagsCreate ∷ [];
+      deletes = eventFlagsDelete ∷ [];
+      takes = eventFlagsGet ∷ [];
+      gives = eventFlagsSet ∷ [];
+      prioritises = [];
+      empties = [];
+    }
 rowOf pool =
-    record { creates = 33 ∷ []; deletes = 34 ∷ []; takes = 35 ∷ []; gives = 36 ∷ []; prioritises = 37 ∷ []; empties = [] }
+    record {
+      creates = blockPoolCreate ∷ [];
+      deletes = blockPoolDelete ∷ [];
+      takes = blockAllocate ∷ [];
+      gives = blockRelease ∷ [];
+      prioritises = blockPoolPrioritize ∷ [];
+      empties = [];
+    }
 
 -- the kind of object that the first argument of calls 16 to 37 names; no row has any other number
 abbrev pub kindOf : ℕ → Kind
@@ -48,18 +104,18 @@ unfoldable pub mayMoveb : ℕ → ℕ → ℕ → Move → Bool
 -- a wait ends as served only by a call that gives to the object, takes from it (a sender's) or empties it
 mayMoveb n a t (ends (served d i) words) = eqb i a && (oneOf n (rowOf d .gives) || oneOf n (rowOf d .takes) || oneOf n (rowOf d .empties))
 mayMoveb n a t (ends (deleted d i) words) = eqb i a && oneOf n (rowOf d .deletes)
-mayMoveb n a t (ends timedOut words) = eqb n 15
-mayMoveb n a t (ends aborted words) = eqb n 10 && eqb t a
+mayMoveb n a t (ends timedOut words) = eqb n tick
+mayMoveb n a t (ends aborted words) = eqb n threadWaitAbort && eqb t a
 -- only a front sender joins a line at the front
-mayMoveb n a t (starts front state object ticks h) = implies front (eqb n 25 && eqb state onQueue && eqb object a)
-mayMoveb n a t stops = eqb n 5 && eqb t a
+mayMoveb n a t (starts front state object ticks h) = implies front (eqb n queueFrontSend && eqb state onQueue && eqb object a)
+mayMoveb n a t stops = eqb n threadTerminate && eqb t a
 mayMoveb n a t (turns f g) = true
 
 -- rule 2.11: an edit by that call
 unfoldable pub mayb : ℕ → ℕ → Edit → Bool
 mayb n a (moves t m) = mayMoveb n a t m
 mayb n a (alters t f) = true
-mayb n a (counts t) = eqb n 15
+mayb n a (counts t) = eqb n tick
 mayb n a (ranks d i) = eqb i a && oneOf n (rowOf d .prioritises)
 mayb n a (stores d i x) =
     eqb i a
@@ -68,7 +124,7 @@ mayb n a (stores d i x) =
     || oneOf n (rowOf d .takes)
     || oneOf n (rowOf d .gives)
     || oneOf n (rowOf d .empties))
-mayb n a (sets c) = eqb n 14 || eqb n 15
+mayb n a (sets c) = eqb n timeSet || eqb n tick
 
 -- rule 2.11: a test of every edit
 unfoldable pub allb : (Edit → Bool) → List Edit → Bool

@@ -10,6 +10,7 @@ use Rattle.scheduler.specs.Orders.{firstAt}
 use Rattle.objects.specs.Queues.{emptyQueue}
 use Rattle.objects.specs.Groups.{groupWith}
 use Rattle.blocks.specs.Pools.{freshPool, usedb, withFree}
+use Rattle.calls.specs.Services.{threadTerminate, threadWaitAbort, tick}
 use Rattle.calls.specs.Held.{noWords, oneWord}
 use Rattle.calls.specs.Messages.{messageIn}
 use Rattle.kernel.specs.declared.Kernel.{Kernel}
@@ -108,6 +109,6 @@ Role k number n b c messages e =
     × When (oneOf number (rowOf (kindOf number) .takes)) (Takes (kindOf number) k n e)
     × When (oneOf number (rowOf (kindOf number) .gives)) (Gives (kindOf number) k n b c messages e)
     × When (oneOf number (rowOf (kindOf number) .empties)) (Empties (kindOf number) k n e)
-    × When (eqb number 5) (e ≡ terminateEffect k n)
-    × When (eqb number 10) (e ≡ abortEffect n)
-    × When (eqb number 15) (e ≡ tickEffect k)
+    × When (eqb number threadTerminate) (e ≡ terminateEffect k n)
+    × When (eqb number threadWaitAbort) (e ≡ abortEffect n)
+    × When (eqb number tick) (e ≡ tickEffect k)

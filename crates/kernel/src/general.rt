@@ -14,6 +14,7 @@ use calls::call::decode;
 use calls::status::NOBODY_RUNS;
 use calls::status::TABLES_UNSOUND;
 use calls::status::UNKNOWN_CALL;
+use numbers::MESSAGE_WORDS;
 use numbers::NOBODY;
 use numbers::ThreadId;
 
@@ -25,7 +26,7 @@ impl Kernel {
         if !self.is_sound() {
             return Answer {
                 status: TABLES_UNSOUND,
-                words: [0; 16],
+                words: [0; MESSAGE_WORDS],
                 next: ThreadId(NOBODY),
                 ended: 0,
                 kernel: self,

@@ -6,7 +6,7 @@ ghost use Rattle.numbers.specs.Numbers.{threads, semaphores, queues, gro
 pub const THREADS: usize = 32;
 
 // Priorities are 0 to 31, the best first.
-pub const PRIORITIES: u8 = 32;
+pub const PRIORITIES: u32 = 32;
 
 pub const SEMAPHORES: usize = 16;
 

@@ -266,7 +266,9 @@ impl Thread {
     fn is_limited(self) -> bool
         ensures { λ r. ⌜ r ≡ limitsb self ⌝ }
     {
-        (self.state <= ON_BLOCK) & (self.priority < PRIORITIES) & (self.threshold <= self.priority)
+        (self.state <= ON_BLOCK)
+            & ((self.priority as u32) < PRIORITIES)
+            & (self.threshold <= self.priority)
     }
 
     // Whether the thread is ready and not better than `limit`, and its record fit in itself.

@@ -1,6 +1,7 @@
 // Replies to the records of a tape, written one after the other into lent words.
 ghost use mathlib.Core.Path.{_≡_};
 ghost use Rattle.tape.specs.Replies.{refusal, replyWords, replied, repliedEach};
+use numbers::MESSAGE_WORDS;
 use numbers::ThreadId;
 
 // The words of a reply: status, sixteen words, next thread, ended waits.
@@ -10,7 +11,7 @@ pub const REPLY_WORDS: usize = 19;
 #[repr(C)]
 pub struct Reply {
     pub status: u32,
-    pub words: [u32; 16],
+    pub words: [u32; MESSAGE_WORDS],
     pub next: u32,
     pub ended: u32,
 }
@@ -21,7 +22,7 @@ pub fn refusal(status: u32, next: ThreadId) -> Reply
 {
     Reply {
         status,
-        words: [0; 16],
+        words: [0; MESSAGE_WORDS],
         next: next.0 as u32,
         ended: 0,
     }

@@ -1,6 +1,7 @@
 // Pieces of text that the programs print, put into a buffer as in `output`: the position goes in and comes back.
 use calls::status::TAPE_REFUSED;
 use lines::Line;
+use numbers::MESSAGE_WORDS;
 use numbers::NOBODY;
 use numbers::ThreadId;
 use output::put_byte;
@@ -34,10 +35,10 @@ pub fn put_separator(buf: &mut [u8], at: usize, i: usize, separator: u8) -> usiz
 }
 
 // Sixteen words with a separator between them.
-pub fn put_words(buf: &mut [u8], at: usize, words: &[u32; 16], separator: u8) -> usize {
+pub fn put_words(buf: &mut [u8], at: usize, words: &[u32; MESSAGE_WORDS], separator: u8) -> usize {
     let mut to = at;
     let mut i: usize = 0;
-    while i < 16 {
+    while i < MESSAGE_WORDS {
         to = put_separator(buf, to, i, separator);
         to = put_decimal(buf, to, wide_word(words[i]));
         i += 1;

@@ -95,10 +95,10 @@ fn put_order(buf: &mut [u8], at: usize, priority: u32, l: Line) -> usize {
 
 pub fn put_orders(buf: &mut [u8], at: usize, s: Scheduler) -> usize {
     let mut to = at;
-    let mut p: u8 = 0;
+    let mut p: u32 = 0;
     while p < PRIORITIES {
-        let l = s.line_at(Place::ready(p));
-        to = put_order(buf, to, p as u32, l);
+        let l = s.line_at(Place::ready(p as u8));
+        to = put_order(buf, to, p, l);
         p += 1;
     }
     to

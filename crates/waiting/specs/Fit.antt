@@ -5,6 +5,7 @@ use mathlib.Core.Bool.{Bool, _&&_, _||_, not}
 use Prim.Native.Nat.{ℕ}
 use lib.ListN.{getD}
 use lib.Dec.{eqb, ltb, leb}
+use Rattle.numbers.specs.Numbers.{messageWords, semaphores, queues, groups, pools}
 use Rattle.lines.specs.Logic.{if_then_else_, implies, allBelow}
 use Rattle.scheduler.specs.declared.thread.Thread.{Thread}
 use Rattle.scheduler.specs.Threads.{onQueue, onFlags, pausedb}
@@ -22,7 +23,7 @@ use Rattle.calls.specs.Statuses as Statuses
 
 -- rule 12.7: of sixteen words those from n on are zero
 unfoldable pub blankFrom : ℕ → List ℕ → Bool
-blankFrom n words = allBelow 16 (λ i. ltb i n || eqb (getD words i 0) 0)
+blankFrom n words = allBelow messageWords (λ i. ltb i n || eqb (getD words i 0) 0)
 
 -- ---- who waits for what
 -- rule 12.5: a created thread in a state of waiting, which says on what kind of object it waits
@@ -79,16 +80,16 @@ poolWaitb p = p .created && eqb (p .free) 0
 -- ---- the tables of objects
 -- rule 12.7: every semaphore's record is fit in itself
 unfoldable pub semaphoresFitb : List Semaphore → Bool
-semaphoresFitb xs = allBelow 16 (λ n. semaphoreFitb (getD xs n noSemaphore))
+semaphoresFitb xs = allBelow semaphores (λ n. semaphoreFitb (getD xs n noSemaphore))
 
 -- rules 12.6, 12.7: every queue's record is fit in itself
 unfoldable pub queuesFitb : List Queue → Bool
-queuesFitb xs = allBelow 8 (λ n. queueFitb (getD xs n noQueue))
+queuesFitb xs = allBelow queues (λ n. queueFitb (getD xs n noQueue))
 
 -- rule 12.7: every group's record is fit in itself
 unfoldable pub groupsFitb : List Group → Bool
-groupsFitb xs = allBelow 8 (λ n. groupFitb (getD xs n noGroup))
+groupsFitb xs = allBelow groups (λ n. groupFitb (getD xs n noGroup))
 
 -- rules 12.6, 12.7: every pool's record is fit in itself
 unfoldable pub poolsFitb : List Pool → Bool
-poolsFitb xs = allBelow 4 (λ n. poolFitb (getD xs n noPool))
+poolsFitb xs = allBelow pools (λ n. poolFitb (getD xs n noPool))

@@ -8,6 +8,9 @@ ghost use Rattle.waiting.specs.Fit.{blankFrom, waitsOnb, heldFitb, semap
 use blocks::pool::Pool;
 use calls::held::Held;
 use calls::status::WAITING;
+use numbers::GROUPS;
+use numbers::MESSAGE_WORDS;
+use numbers::SEMAPHORES;
 use objects::group::Group;
 use objects::group::is_met;
 use objects::queue::Queue;
@@ -17,13 +20,13 @@ use scheduler::thread::ON_QUEUE;
 use scheduler::thread::Thread;
 
 // Whether the words from `from` on are zero.
-pub fn is_blank(words: [u32; 16], from: u8) -> bool
+pub fn is_blank(words: [u32; MESSAGE_WORDS], from: u8) -> bool
     ensures { λ r. ⌜ r ≡ blankFrom from words ⌝ }
 {
     let n = from as usize;
     let mut blank = true;
     let mut i: usize = 0;
-    while i < 16 {
+    while i < MESSAGE_WORDS {
         blank = blank & ((i < n) | (words[i] == 0));
         i += 1;
     }
@@ -31,12 +34,12 @@ pub fn is_blank(words: [u32; 16], from: u8) -> bool
 }
 
 // The bits of all words joined: 0 where every word is zero.
-fn joined(words: [u32; 16]) -> u32
+fn joined(words: [u32; MESSAGE_WORDS]) -> u32
     ensures { λ r. ⌜ eqb r 0 ≡ blankFrom 0 words ⌝ }
 {
     let mut any: u32 = 0;
     let mut i: usize = 0;
-    while i < 16 {
+    while i < MESSAGE_WORDS {
         any = any | words[i];
         i += 1;
     }
@@ -123,24 +126,24 @@ pub fn pool_waits(p: Pool) -> bool
     p.created & (p.free == 0)
 }
 
-pub fn semaphores_fit(all: [Semaphore; 16]) -> bool
+pub fn semaphores_fit(all: [Semaphore; SEMAPHORES]) -> bool
     ensures { λ r. ⌜ r ≡ semaphoresFitb all ⌝ }
 {
     let mut ok = true;
     let mut n: usize = 0;
-    while n < 16 {
+    while n < SEMAPHORES {
         ok = ok & all[n].is_fit();
         n += 1;
     }
     ok
 }
 
-pub fn groups_fit(all: [Group; 8]) -> bool
+pub fn groups_fit(all: [Group; GROUPS]) -> bool
     ensures { λ r. ⌜ r ≡ groupsFitb all ⌝ }
 {
     let mut ok = true;
     let mut n: usize = 0;
-    while n < 8 {
+    while n < GROUPS {
         ok = ok & all[n].is_fit();
         n += 1;
     }
