@@ -8,7 +8,8 @@ use Rattle.kernel.specs.declared.Kernel.{Kernel}
 use Rattle.kernel.specs.declared.Answer.{Answer}
 use Rattle.kernel.specs.Tables.{withScheduler}
 
--- rule 4.7: the answer of a call that is carried out with the scheduler s and so many ended waits: the choice is made, and the new runner is next
+-- rule 4.7: the answer of a call that is carried out with the scheduler s and so many ended waits: the choice is made, and the new runner
+-- is next
 unfoldable pub answered : Kernel → Scheduler → ℕ → List ℕ → ℕ → Answer
 answered k s status words ended =
     record {
