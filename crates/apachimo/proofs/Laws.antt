@@ -1,5 +1,1 @@
-pub mod Reading
-pub mod Writing
-pub mod Flags
 pub mod Library
-pub mod Restored

@@ -1,6 +1,1 @@
-pub mod Blocks
-pub mod Layout
-pub mod State
-pub mod Bytes
 pub mod Library
-pub mod Restored

@@ -16,9 +16,9 @@ use Rattle.kernel.specs.Sound.{soundb}
 use Rattle.kernel.specs.Claims.{doneb}
 use Rattle.kernel.specs.Runs.{replyOf, ran, ranReplies}
 use Rattle.apachimo.specs.declared.Run.{Run}
-use Rattle.apachimo.specs.Layout.{stateBytes}
-use Rattle.apachimo.specs.State.{kernelOf, flagsFitb}
-use Rattle.apachimo.specs.Bytes.{bytesOf}
+use Rattle.codec.specs.Layout.{stateBytes}
+use Rattle.codec.specs.State.{kernelOf, flagsFitb}
+use Rattle.codec.specs.Bytes.{bytesOf}
 
 -- rule 14.3: why a block is refused: 0x05 another length, 0x100 a flag that is neither 0 nor 1; 0 where it is not
 unfoldable pub blockRefusal : List ℕ → ℕ

@@ -1,13 +1,13 @@
 // The library for C and Rust: the kernel behind five functions on numbers and lent blocks.
 //
-// The tables cross as a block of bytes that the caller lends: the fields in the kernel's order, words with the least byte
-// first, no gaps. Every block is answered: one of another size with 0x05, one that holds no sound tables with 0x100.
+// The tables cross as a block of bytes that the caller lends. Every block is answered: one of another size with 0x05, one
+// that holds no sound tables with 0x100.
 ghost use mathlib.Core.Path.{_≡_};
 ghost use lib.ListN.{length};
 ghost use Rattle.kernel.specs.Claims.{doneb};
 ghost use Rattle.kernel.specs.General.{call};
-ghost use Rattle.apachimo.specs.Layout.{stateBytes};
-ghost use Rattle.apachimo.specs.State.{kernelOf};
+ghost use Rattle.codec.specs.Layout.{stateBytes};
+ghost use Rattle.codec.specs.State.{kernelOf};
 ghost use Rattle.apachimo.specs.Library.{blockRefusal, startStatus, startBlock, soundStatus, requestOf, callReply, callBlock, runRefusal, runResult, runBlock, runReplies};
 use calls::call::Request;
 use calls::status::SIZE_ERROR;
@@ -16,6 +16,10 @@ use calls::status::SUSPEND_LIFTED;
 use calls::status::TABLES_UNSOUND;
 use calls::status::TAPE_REFUSED;
 use calls::status::WAITING;
+use codec::flags;
+use codec::layout;
+use codec::reading;
+use codec::writing;
 use kernel::Kernel;
 use numbers::NOBODY;
 use numbers::ThreadId;
@@ -23,11 +27,6 @@ use tape::replies::REPLY_WORDS;
 use tape::replies::Reply;
 use tape::replies::put_replies;
 use tape::replies::refusal;
-
-pub mod flags;
-pub mod layout;
-pub mod reading;
-pub mod writing;
 
 // A run's result: its own status, and how many records it carried out.
 #[repr(C)]

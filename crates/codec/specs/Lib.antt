@@ -1,0 +1,5 @@
+pub mod Blocks
+pub mod Layout
+pub mod State
+pub mod Bytes
+pub mod Restored
