@@ -2,6 +2,7 @@
 // one field at a time is changed, and the verdict printed.
 use calls::call::Request;
 use kernel::Kernel;
+use numbers::NOBODY;
 use numbers::ThreadId;
 
 fn print(text: &[u8]) {
@@ -165,7 +166,7 @@ fn records(k: Kernel) {
     verdict(b"a slot behind the line not zero", order);
     let mut idle = k;
     let mut i = idle.scheduler;
-    let nobody = ThreadId(32);
+    let nobody = ThreadId(NOBODY);
     i.running = nobody;
     idle.scheduler = i;
     verdict(b"nobody runs while somebody is ready", idle);

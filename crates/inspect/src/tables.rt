@@ -1,6 +1,7 @@
 // The tables as text: what is created, by number, and the orders in which somebody stands.
 use calls::held::Held;
 use kernel::Kernel;
+use numbers::THREADS;
 use numbers::ThreadId;
 use output::put_byte;
 use output::put_text;
@@ -23,7 +24,13 @@ fn put_start(buf: &mut [u8], at: usize, clock: u32, running: ThreadId) -> usize 
 }
 
 // The threads and the orders of the ready ones.
-fn put_scheduler(buf: &mut [u8], at: usize, clock: u32, s: Scheduler, held: [Held; 32]) -> usize {
+fn put_scheduler(
+    buf: &mut [u8],
+    at: usize,
+    clock: u32,
+    s: Scheduler,
+    held: [Held; THREADS],
+) -> usize {
     let threads = s.threads;
     let at = put_start(buf, at, clock, s.running);
     let at = put_threads(buf, at, threads, held);

@@ -1,5 +1,6 @@
 // Moves and choices, step by step: after each, who runs and who stands, each as number/priority with * for a mark,
 // w for a waiter, in the order of joining; at the end the verdicts of the soundness test on damaged tables.
+use numbers::NOBODY;
 use numbers::SemaphoreId;
 use numbers::ThreadId;
 use scheduler::Scheduler;
@@ -162,7 +163,7 @@ fn damaged(s: Scheduler) {
     unused.threads[30].ticks = 1;
     verdict(b"an uncreated record not zero", unused);
     let mut idle = s;
-    let nobody = ThreadId(32);
+    let nobody = ThreadId(NOBODY);
     idle.running = nobody;
     verdict(b"nobody runs while somebody is ready", idle);
 }

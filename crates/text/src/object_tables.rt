@@ -7,9 +7,14 @@ use super::put_separator;
 use super::wide_word;
 use blocks::pool::Pool;
 use lines::Line;
+use numbers::GROUPS;
 use numbers::GroupId;
+use numbers::POOLS;
 use numbers::PoolId;
+use numbers::QUEUES;
 use numbers::QueueId;
+use numbers::SEMAPHORES;
+use numbers::SLOTS;
 use numbers::SemaphoreId;
 use objects::group::Group;
 use objects::queue::Queue;
@@ -35,10 +40,15 @@ fn put_semaphore(buf: &mut [u8], at: usize, n: u32, x: Semaphore, l: Line) -> us
     put_line(buf, at, l)
 }
 
-pub fn put_semaphores(buf: &mut [u8], at: usize, all: [Semaphore; 16], s: Scheduler) -> usize {
+pub fn put_semaphores(
+    buf: &mut [u8],
+    at: usize,
+    all: [Semaphore; SEMAPHORES],
+    s: Scheduler,
+) -> usize {
     let mut to = at;
     let mut n: usize = 0;
-    while n < 16 {
+    while n < SEMAPHORES {
         let l = s.line_at(Place::semaphore(SemaphoreId(n as u8)));
         to = put_semaphore(buf, to, n as u32, all[n], l);
         n += 1;
@@ -58,7 +68,7 @@ fn separator(i: usize, words: usize) -> u8 {
 fn put_stored(buf: &mut [u8], at: usize, q: Queue) -> usize {
     let store = q.store;
     let words = q.words as usize;
-    let n = least(words * (q.stored as usize), 64);
+    let n = least(words * (q.stored as usize), SLOTS);
     let mut to = at;
     let mut i: usize = 0;
     while i < n {
@@ -87,10 +97,10 @@ fn put_queue(buf: &mut [u8], at: usize, n: u32, q: Queue, l: Line) -> usize {
     put_line(buf, at, l)
 }
 
-pub fn put_queues(buf: &mut [u8], at: usize, all: [Queue; 8], s: Scheduler) -> usize {
+pub fn put_queues(buf: &mut [u8], at: usize, all: [Queue; QUEUES], s: Scheduler) -> usize {
     let mut to = at;
     let mut n: usize = 0;
-    while n < 8 {
+    while n < QUEUES {
         let l = s.line_at(Place::queue(QueueId(n as u8)));
         to = put_queue(buf, to, n as u32, all[n], l);
         n += 1;
@@ -107,10 +117,10 @@ fn put_group(buf: &mut [u8], at: usize, n: u32, g: Group, l: Line) -> usize {
     put_line(buf, at, l)
 }
 
-pub fn put_groups(buf: &mut [u8], at: usize, all: [Group; 8], s: Scheduler) -> usize {
+pub fn put_groups(buf: &mut [u8], at: usize, all: [Group; GROUPS], s: Scheduler) -> usize {
     let mut to = at;
     let mut n: usize = 0;
-    while n < 8 {
+    while n < GROUPS {
         let l = s.line_at(Place::group(GroupId(n as u8)));
         to = put_group(buf, to, n as u32, all[n], l);
         n += 1;
@@ -121,7 +131,7 @@ pub fn put_groups(buf: &mut [u8], at: usize, all: [Group; 8], s: Scheduler) -> u
 // The free blocks in the order in which they would be given.
 fn put_free(buf: &mut [u8], at: usize, p: Pool) -> usize {
     let list = p.list;
-    let n = least(p.free as usize, 64);
+    let n = least(p.free as usize, SLOTS);
     put_numbers(buf, at, &list[..n], b',')
 }
 
@@ -143,10 +153,10 @@ fn put_pool(buf: &mut [u8], at: usize, n: u32, p: Pool, l: Line) -> usize {
     put_line(buf, at, l)
 }
 
-pub fn put_pools(buf: &mut [u8], at: usize, all: [Pool; 4], s: Scheduler) -> usize {
+pub fn put_pools(buf: &mut [u8], at: usize, all: [Pool; POOLS], s: Scheduler) -> usize {
     let mut to = at;
     let mut n: usize = 0;
-    while n < 4 {
+    while n < POOLS {
         let l = s.line_at(Place::pool(PoolId(n as u8)));
         to = put_pool(buf, to, n as u32, all[n], l);
         n += 1;

@@ -5,6 +5,7 @@ use super::put_words;
 use calls::held::Held;
 use lines::Line;
 use numbers::PRIORITIES;
+use numbers::THREADS;
 use output::put_byte;
 use output::put_text;
 use scheduler::Scheduler;
@@ -74,10 +75,15 @@ fn put_record(buf: &mut [u8], at: usize, t: u32, th: Thread, h: Held) -> usize {
     put_byte(buf, at, b'\n')
 }
 
-pub fn put_threads(buf: &mut [u8], at: usize, threads: [Thread; 32], held: [Held; 32]) -> usize {
+pub fn put_threads(
+    buf: &mut [u8],
+    at: usize,
+    threads: [Thread; THREADS],
+    held: [Held; THREADS],
+) -> usize {
     let mut to = at;
     let mut t: usize = 0;
-    while t < 32 {
+    while t < THREADS {
         to = put_record(buf, to, t as u32, threads[t], held[t]);
         t += 1;
     }
