@@ -2,10 +2,12 @@
 //! itself.
 #![cfg(unix)]
 
+use apachimo::{Board, Status};
 use board_tools::check::{check_tape, Tally};
 use board_tools::compare::{compare, compare_bytes, first_difference, Inspect, Proved};
 use board_tools::fuzz::{fuzz, Options};
 use board_tools::generate::generate;
+use board_tools::library;
 use board_tools::rng::Rng;
 use board_tools::text::assemble::assemble;
 use ordinary::{print, Record, Tape};
@@ -276,4 +278,22 @@ fn the_library_agrees_on_hostile_bytes() {
 #[test]
 fn the_library_agrees_on_the_largest_tape() {
     assert_agrees_on_the_largest_tape(&Proved::Library);
+}
+
+/// The tables that a generated tape leaves, damaged again and again: a run
+/// answers as single calls do, most often with the one reply to unsound tables.
+#[test]
+fn runs_on_damaged_tables_answer_as_single_calls() {
+    let tape = generate(20261217, 200);
+    let bytes = tape.encode();
+    let mut board = Board::new();
+    assert_eq!(board.run(&bytes, u32::MAX).status, Status::Success);
+    let mut rng = Rng::new(7);
+    let mut unsound = 0;
+    for _ in 0..200 {
+        let damaged = library::damaged(&board, &mut rng);
+        unsound += usize::from(!damaged.is_sound());
+        assert_eq!(library::run_against_calls(&damaged, &tape, &bytes), None);
+    }
+    assert!((100..200).contains(&unsound), "{unsound} of 200 unsound");
 }
