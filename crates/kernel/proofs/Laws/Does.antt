@@ -16,7 +16,7 @@ use Rattle.scheduler.specs.Choice.{withMark}
 use Rattle.scheduler.proofs.Laws.Choosing
 use Rattle.calls.specs.Statuses as Statuses
 use Rattle.kernel.specs.declared.Kernel.{Kernel}
-use Rattle.kernel.specs.Tables.{runnerOf, heldAt, withScheduler}
+use Rattle.kernel.specs.Tables.{threadOf, runnerOf, heldAt, withScheduler}
 use Rattle.kernel.specs.Answers.{Outcome, answerOf, refused}
 use Rattle.kernel.specs.Kinds.{Kind, tableOf}
 use Rattle.kernel.specs.Sound.{Fit, Sound}
@@ -137,6 +137,10 @@ module _ (k : Kernel) (n a : ℕ) (e : Effect) (P : Proper k n a e) where
         seen = Choosing.rescheduled-keeps (applied k (e .edits) .scheduler) (P .fit .steady) Fits.seen Fits.mark-seen (e .relinquishes) u;
         ticks = (let q = Choosing.rescheduled-keeps (applied k (e .edits) .scheduler) (P .fit .steady) (λ y. y .ticks) mark-ticks (e .relinquishes) u in omega (arith, q));
       }
+
+  pub chosen-levels : (u : ℕ) → Fits.levels (threadOf x u) ≡ Fits.levels (threadOf (applied k (e .edits)) u)
+  unfolding carriedOut withScheduler
+  chosen-levels u = Choosing.rescheduled-keeps (applied k (e .edits) .scheduler) (P .fit .steady) Fits.levels Fits.mark-levels (e .relinquishes) u
 
   pub chosen-table : (d : Kind) → tableOf d x ≡ tableOf d (applied k (e .edits))
   unfolding carriedOut
