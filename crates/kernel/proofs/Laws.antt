@@ -16,4 +16,5 @@ pub mod Calls
 pub mod Refusals
 pub mod Services
 pub mod Claims
+pub mod Ended
 pub mod Runs

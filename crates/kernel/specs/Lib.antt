@@ -17,5 +17,6 @@ pub mod Refusals
 pub mod Chains
 pub mod General
 pub mod Claims
+pub mod Ended
 pub mod Views
 pub mod Runs

@@ -7,8 +7,12 @@ use Rattle.numbers.specs.Numbers.{threads}
 use Rattle.lines.specs.Logic.{if_then_else_, implies}
 use Rattle.scheduler.specs.Threads.{onQueue}
 use Rattle.calls.specs.Services.{
+  threadResume,
+  threadSuspend,
   threadTerminate,
   threadWaitAbort,
+  threadPriorityChange,
+  threadPreemptionChange,
   timeSet,
   tick,
   semaphoreCreate,
@@ -114,7 +118,7 @@ mayMoveb n a t (turns f g) = true
 -- rule 2.11: an edit by that call
 unfoldable pub mayb : ℕ → ℕ → Edit → Bool
 mayb n a (moves t m) = mayMoveb n a t m
-mayb n a (alters t f) = true
+mayb n a (alters t f) = eqb t a && oneOf n (threadResume ∷ threadSuspend ∷ threadPriorityChange ∷ threadPreemptionChange ∷ [])
 mayb n a (counts t) = eqb n tick
 mayb n a (ranks d i) = eqb i a && oneOf n (rowOf d .prioritises)
 mayb n a (stores d i x) =

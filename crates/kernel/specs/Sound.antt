@@ -46,6 +46,12 @@ soundb k =
     && poolsFitb (k .pools)
 
 -- ---- soundness
+-- rule 12.9: the arrays of the tables have their sizes, as in every value of the code's types
+pub record Sized (k : Kernel) : Type 0 where
+  pub records : length (k .scheduler .threads) ≡ threads
+  pub held : length (k .held) ≡ threads
+  pub objects : (d : Kind) → length (tableOf d k) ≡ sizeOf d
+
 -- rules 12.6, 12.7: the table of a kind of objects has its size, as every value of its type has, and each record is fit in itself: its
 -- sizes are allowed, a free block is listed once and a used one never, what is not in use is zero
 pub record Objects (d : Kind) (k : Kernel) : Type 0 where

@@ -32,8 +32,8 @@ module _ (k : Kernel) (S : Sound k) (m : Made) where
   answer-is = ap (λ (b : Bool). if b then answerOf stepped else General.unsound k) (passes k S)
 
   pub next-sound : Sound (next k m)
-  unfolding next answerOf
-  next-sound = subst (λ (x : Answer). Sound (x .kernel)) (sym answer-is) (claims .stepSound k S (m .request) (m .messages))
+  unfolding next answer
+  next-sound = claims .callSound k S (m .request) (m .messages)
 
   -- what holds of its status and tables where it is refused, and where it is carried out
   pub by-step : (P : ℕ → Kernel → Type 0) → ((s : ℕ) → eqb s 0 ≡ false → P s k)

@@ -2,12 +2,13 @@
 use mathlib.Core.Path.{_≡_, refl, sym, ap, _∙_}
 use mathlib.Core.List.{List, [], _∷_}
 use mathlib.Core.Bool.{Bool, true, false}
-use Prim.Native.Nat.{ℕ, _+_, _-_}
+use Prim.Native.Nat.{ℕ, _+_, _-_, _≤_}
 use native.Mathlib.Omega.{arith}
 use lib.ListN.{length, getD, length-set}
 use lib.Seq.{getD-set-same, getD-set-other}
-use Rattle.lines.specs.Lists.{count}
-use Rattle.lines.proofs.Laws.Logic.{by-eq}
+use Rattle.lines.specs.Logic.{oneIf}
+use Rattle.lines.specs.Lists.{count, onlyIf}
+use Rattle.lines.proofs.Laws.Logic.{by-test, by-eq, never}
 use Rattle.lines.proofs.Laws.Lists
 use Rattle.lines.proofs.Laws.Less
 use Rattle.scheduler.specs.declared.thread.Thread.{Thread}
@@ -113,6 +114,40 @@ kept-all k S (e ∷ es) G u z =
     (kept-then k (edited k e) (applied (edited k e) es) u _ _ (kept-edit k S e (G .0) u (omega (arith, c, z)))
     (kept-all (edited k e) (Fits.steady-edit k S e (G .0)) es (G .1) u (omega (arith, c, z))))
 
+-- nor alters: its levels
+levels-edit : (k : Kernel) → Steady (k .scheduler) → (e : Edit) → Fits.Requires k e → Edits.unalteredb e ≡ true → (u : ℕ) → count u (movers anyb (e ∷ [])) ≡ 0 → Fits.levels (threadOf (edited k e) u) ≡ Fits.levels (threadOf k u)
+unfolding edited gathered count prioritisedAt withOrder withHeld withScheduler withClock threadAt withTicks Fits.levels
+levels-edit k S (moves t m) G a u z = ap Fits.levels (Fits.joined-other (k .scheduler) S (frontb m) t (recordBy m (threadOf k t)) (G .small) u (other-than u t [] z))
+levels-edit k S (alters t f) G a u z = never a refl
+levels-edit k S (counts t) G a u z = Orders.kept-all (k .scheduler) S t _ (Fits.one-less k S t (G .0) (G .1) .small) Fits.levels refl u
+levels-edit k S (ranks d n) G a u z = refl
+levels-edit k S (stores d n x) G a u z = ap (λ (s : Scheduler). Fits.levels (threadAt s u)) (Objects.stored-scheduler d k n x)
+levels-edit k S (sets c) G a u z = refl
+
+levels-all : (k : Kernel) → Steady (k .scheduler) → (es : List Edit) → Fits.RequiresAll k es → allb Edits.unalteredb es ≡ true → (u : ℕ) → count u (movers anyb es) ≡ 0 → Fits.levels (threadOf (applied k es) u) ≡ Fits.levels (threadOf k u)
+unfolding applied
+levels-all k S [] G a u z = refl
+levels-all k S (e ∷ es) G a u z =
+    let c = Edits.gathered-count (mover anyb) e es u in
+    levels-all (edited k e) (Fits.steady-edit k S e (G .0)) es (G .1) (Edits.all-rest Edits.unalteredb e es a) u (omega (arith, c, z))
+    ∙ levels-edit k S e (G .0) (Edits.all-first Edits.unalteredb e es a) u (omega (arith, c, z))
+
+none-there : (c : Move → Bool) (u : ℕ) → count u (movers c []) ≡ 0
+unfolding gathered count
+none-there c u = refl
+
+-- who moves in some way moves
+part-first : (c : Move → Bool) (e : Edit) (u : ℕ) → count u (movers c (e ∷ [])) ≤ count u (movers anyb (e ∷ []))
+unfolding gathered count
+part-first c e u =
+    Edits.by-edit (λ e. count u (movers c (e ∷ [])) ≤ count u (movers anyb (e ∷ []))) (λ t m. by-test (c m) (λ y. rw y (omega arith)) (λ y. rw y (omega arith)))
+    (λ t f. omega arith) (λ t. omega arith) (λ d n. omega arith) (λ d n x. omega arith) (λ i. omega arith) e
+
+pub part-moves : (c : Move → Bool) (es : List Edit) (u : ℕ) → count u (movers c es) ≤ count u (movers anyb es)
+part-moves c [] u = omega (arith, none-there c u)
+part-moves c (e ∷ es) u =
+    omega (arith, part-first c e u, part-moves c es u, Edits.gathered-count (mover c) e es u, Edits.gathered-count (mover anyb) e es u)
+
 -- ---- a thread that moves, once
 -- some edit moves u in the way m: whatever holds of every edit holds of that one
 abbrev pub Among : ℕ → Move → List Edit → Type 0
@@ -127,8 +162,14 @@ pub record MovedOnce (k x : Kernel) (es : List Edit) (u : ℕ) : Type 0 where
   pub among : Among u move es
   pub was : Fits.Was move (threadOf at u)
   pub is : pausedb (recordBy move (threadOf at u)) ≡ startsb move
+  pub blank : Fits.BlankMove move
+  -- by no other edit does it move
+  pub alone : (c : Move → Bool) → count u (movers c es) ≡ oneIf (c move)
   pub held : heldAt x u ≡ heldBy move (threadOf at u) (heldAt at u)
   pub seen : Fits.seen (threadOf x u) ≡ Fits.seen (recordBy move (threadOf at u))
+  -- where no record is altered it keeps its levels up to the move, and after it
+  pub before : allb Edits.unalteredb es ≡ true → Fits.levels (threadOf at u) ≡ Fits.levels (threadOf k u)
+  pub after : allb Edits.unalteredb es ≡ true → Fits.levels (threadOf x u) ≡ Fits.levels (recordBy move (threadOf at u))
 
 -- what holds of an edit, in a list that begins with another
 later : (u : ℕ) (m : Move) (e : Edit) (es : List Edit) → Among u m es → Among u m (e ∷ es)
@@ -147,6 +188,13 @@ moved-self k S z t m G = (
   Fits.joined-self (k .scheduler) S (frontb m) t (recordBy m (threadOf k t)) (G .small),
 )
 
+alone-first : (t u : ℕ) (m : Move) (es : List Edit) → u ≡ t → count u (movers anyb es) ≡ 0 → (c : Move → Bool) → count u (movers c (moves t m ∷ es)) ≡ oneIf (c m)
+unfolding gathered
+alone-first t u m es e n c =
+    let here = ap (λ (v : ℕ). count v (onlyIf (c m) t)) e ∙ Lists.count-only t (c m) in
+    let all = Lists.count-append u (onlyIf (c m) t) (movers c es) in
+    omega (arith, here, all, part-moves c es u, n)
+
 -- the edit that moves it is the first
 moved-once-first : (k : Kernel) → Steady (k .scheduler) → length (k .held) ≡ 32 → (t : ℕ) (m : Move) (es : List Edit) → Fits.RequiresAll k (moves t m ∷ es) → (u : ℕ) → u ≡ t → count u (movers anyb es) ≡ 0 → MovedOnce k (applied k (moves t m ∷ es)) (moves t m ∷ es) u
 unfolding applied
@@ -162,28 +210,32 @@ moved-once-first k S z t m es G u e n =
       among = λ f a. ap (λ (v : ℕ). f (moves v m)) e ∙ Edits.all-first f (moves t m) es a;
       was = rw e (G .0 .was);
       is = rw e (G .0 .is);
+      blank = G .0 .blank;
+      alone = alone-first t u m es e n;
       held = rest .held ∙ rw e (self .0);
       seen = rest .seen ∙ rw e (ap Fits.seen (self .1));
+      before = λ a. refl;
+      after = λ a. levels-all x (Fits.steady-edit k S (moves t m) (G .0)) es (G .1) (Edits.all-rest Edits.unalteredb (moves t m) es a) u n ∙ rw e (ap Fits.levels (self .1));
     }
 
-moved-once-later : (k : Kernel) (e : Edit) (es : List Edit) (u n : ℕ) → Kept k (edited k e) u n → MovedOnce (edited k e) (applied (edited k e) es) es u → MovedOnce k (applied k (e ∷ es)) (e ∷ es) u
+moved-once-later : (k : Kernel) → Steady (k .scheduler) → (e : Edit) (es : List Edit) → Fits.Requires k e → (u : ℕ) → count u (movers anyb (e ∷ [])) ≡ 0 → MovedOnce (edited k e) (applied (edited k e) es) es u → MovedOnce k (applied k (e ∷ es)) (e ∷ es) u
 unfolding applied
-moved-once-later k e es u n a W =
+moved-once-later k S e es G u n W =
     record {
       at = W .at;
-      less = n + W .less;
-      kept = kept-then k (edited k e) (W .at) u n (W .less) a (W .kept);
+      less = count u (counted (e ∷ [])) + W .less;
+      kept = kept-then k (edited k e) (W .at) u _ (W .less) (kept-edit k S e G u n) (W .kept);
       move = W .move;
       among = later u (W .move) e es (W .among);
       was = W .was;
       is = W .is;
+      blank = W .blank;
+      alone = λ c. (let s = Edits.gathered-count (mover c) e es u in let p = part-first c e u in let w = W .alone c in omega (arith, s, p, n, w));
       held = W .held;
       seen = W .seen;
+      before = λ a. W .before (Edits.all-rest Edits.unalteredb e es a) ∙ levels-edit k S e G (Edits.all-first Edits.unalteredb e es a) u n;
+      after = λ a. W .after (Edits.all-rest Edits.unalteredb e es a);
     }
-
-none-first : (u : ℕ) → count u (movers anyb []) ≡ 0
-unfolding gathered count
-none-first u = refl
 
 moved-first : (t u : ℕ) (m : Move) → count u (movers anyb (moves t m ∷ [])) ≡ count u (t ∷ [])
 unfolding gathered
@@ -196,13 +248,13 @@ moved-once-head k S z e es G u n c =
     (λ t m G n c. by-eq u t
     (λ q. moved-once-first k S z t m es G u q (let s = Edits.gathered-count (mover anyb) (moves t m) es u in let f = moved-first t u m in let h = Lists.count-here t [] in let y = ap (λ (v : ℕ). count v (t ∷ [])) q in omega (arith, s, c, f, h, y)))
     (λ q. absurd (n (moved-first t u m ∙ Lists.count-there u t [] (λ y. q (sym y)) ∙ Less.count-none u))))
-    (λ t f G n c. absurd (n (none-first u))) (λ t G n c. absurd (n (none-first u))) (λ d i G n c. absurd (n (none-first u))) (λ d i x G n c. absurd (n (none-first u))) (λ i G n c. absurd (n (none-first u))) e G n c
+    (λ t f G n c. absurd (n (none-there anyb u))) (λ t G n c. absurd (n (none-there anyb u))) (λ d i G n c. absurd (n (none-there anyb u))) (λ d i x G n c. absurd (n (none-there anyb u))) (λ i G n c. absurd (n (none-there anyb u))) e G n c
 
 pub moved-once : (k : Kernel) → Steady (k .scheduler) → length (k .held) ≡ 32 → (es : List Edit) → Fits.RequiresAll k es → (u : ℕ) → count u (movers anyb es) ≡ 1 → MovedOnce k (applied k es) es u
-moved-once k S z [] G u c = absurd (let n = none-first u in omega (arith, n, c))
+moved-once k S z [] G u c = absurd (let n = none-there anyb u in omega (arith, n, c))
 moved-once k S z (e ∷ es) G u c =
     by-eq (count u (movers anyb (e ∷ []))) 0
-    (λ n. moved-once-later k e es u _ (kept-edit k S e (G .0) u n)
+    (λ n. moved-once-later k S e es (G .0) u n
     (moved-once (edited k e) (Fits.steady-edit k S e (G .0)) (sized-edit k e z) es (G .1) u (let s = Edits.gathered-count (mover anyb) e es u in omega (arith, s, c, n))))
     (λ n. moved-once-head k S z e es G u n c)
 

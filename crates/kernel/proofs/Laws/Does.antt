@@ -14,9 +14,10 @@ use Rattle.scheduler.specs.declared.thread.Place.{Place}
 use Rattle.scheduler.specs.Orders.{lineAt}
 use Rattle.scheduler.specs.Choice.{withMark}
 use Rattle.scheduler.proofs.Laws.Choosing
+use Rattle.calls.specs.Statuses as Statuses
 use Rattle.kernel.specs.declared.Kernel.{Kernel}
-use Rattle.kernel.specs.Tables.{runnerOf, heldAt, withScheduler}
-use Rattle.kernel.specs.Answers.{Outcome, refused}
+use Rattle.kernel.specs.Tables.{threadOf, runnerOf, heldAt, withScheduler}
+use Rattle.kernel.specs.Answers.{Outcome, answerOf, refused}
 use Rattle.kernel.specs.Kinds.{Kind, tableOf}
 use Rattle.kernel.specs.Sound.{Fit, Sound}
 use Rattle.kernel.specs.Edits.{Move, Edit, applied, movers, anyb, startsb, Success, statusOf, Effect, carriedOut, guarded}
@@ -92,11 +93,24 @@ done-status done = refl
 done-status lifted = refl
 done-status waits = refl
 
-pub guarded-refused : (k : Kernel) (reason : ℕ) (e : Effect) → doneb (guarded k reason e .status) ≡ false → Unchanged k (guarded k reason e)
-unfolding guarded refused carriedOut
-guarded-refused k reason e =
-    by-choice (λ (o : Outcome). doneb (o .status) ≡ false → Unchanged k o) (eqb reason 0) (carriedOut k e) (refused k reason)
-    (λ z u. never (done-status (e .success)) u) (λ z u. record { kernel = refl; words = refl; ended = refl })
+success-known : (s : Success) → eqb (statusOf s) Statuses.tablesUnsound ≡ false
+unfolding statusOf
+success-known done = refl
+success-known lifted = refl
+success-known waits = refl
+
+pub guarded-refused : (k : Kernel) (reason : ℕ) (e : Effect) → eqb reason Statuses.tablesUnsound ≡ false → doneb (guarded k reason e .status) ≡ false → Unchanged k (answerOf (guarded k reason e))
+unfolding guarded refused carriedOut answerOf
+guarded-refused k reason e known =
+    by-choice (λ (o : Outcome). doneb (o .status) ≡ false → Unchanged k (answerOf o)) (eqb reason 0) (carriedOut k e) (refused k reason)
+    (λ z u. never (done-status (e .success)) u) (λ z u. record { kernel = refl; words = refl; ended = refl; next = rw known })
+
+-- and none gives 0x100 but for that reason
+pub guarded-known : (k : Kernel) (reason : ℕ) (e : Effect) → eqb reason Statuses.tablesUnsound ≡ false → eqb (guarded k reason e .status) Statuses.tablesUnsound ≡ false
+unfolding guarded refused carriedOut statusOf
+guarded-known k reason e known =
+    by-choice (λ (o : Outcome). eqb (o .status) Statuses.tablesUnsound ≡ false) (eqb reason 0) (carriedOut k e) (refused k reason)
+    (λ z. success-known (e .success)) (λ z. known)
 
 -- ---- after the choice
 module _ (k : Kernel) (n a : ℕ) (e : Effect) (P : Proper k n a e) where
@@ -123,6 +137,10 @@ module _ (k : Kernel) (n a : ℕ) (e : Effect) (P : Proper k n a e) where
         seen = Choosing.rescheduled-keeps (applied k (e .edits) .scheduler) (P .fit .steady) Fits.seen Fits.mark-seen (e .relinquishes) u;
         ticks = (let q = Choosing.rescheduled-keeps (applied k (e .edits) .scheduler) (P .fit .steady) (λ y. y .ticks) mark-ticks (e .relinquishes) u in omega (arith, q));
       }
+
+  pub chosen-levels : (u : ℕ) → Fits.levels (threadOf x u) ≡ Fits.levels (threadOf (applied k (e .edits)) u)
+  unfolding carriedOut withScheduler
+  chosen-levels u = Choosing.rescheduled-keeps (applied k (e .edits) .scheduler) (P .fit .steady) Fits.levels Fits.mark-levels (e .relinquishes) u
 
   pub chosen-table : (d : Kind) → tableOf d x ≡ tableOf d (applied k (e .edits))
   unfolding carriedOut

@@ -1,7 +1,7 @@
 -- Laws of lists of edits.
 use mathlib.Core.Path.{_≡_, refl, sym, ap, _∙_}
 use mathlib.Core.List.{List, [], _∷_, _++_, append-nil, append-assoc}
-use mathlib.Core.Bool.{Bool, true}
+use mathlib.Core.Bool.{Bool, true, false}
 use Prim.Native.Nat.{ℕ, _+_}
 use Rattle.lines.specs.Lists.{count}
 use Rattle.lines.proofs.Laws.Logic.{and-left, and-right, and-in}
@@ -21,6 +21,15 @@ by-edit P m a c r o s (counts t) = c t
 by-edit P m a c r o s (ranks d n) = r d n
 by-edit P m a c r o s (stores d n x) = o d n x
 by-edit P m a c r o s (sets i) = s i
+
+-- no record is altered where its thread stands
+abbrev pub unalteredb : Edit → Bool
+unalteredb (moves t m) = true
+unalteredb (alters t f) = false
+unalteredb (counts t) = true
+unalteredb (ranks d n) = true
+unalteredb (stores d n x) = true
+unalteredb (sets c) = true
 
 -- ---- the tables
 pub applied-append : (k : Kernel) (es fs : List Edit) → applied k (es ++ fs) ≡ applied (applied k es) fs

@@ -93,24 +93,24 @@ module _ (k : Kernel) (F : Fit k) (n a : ℕ) where
       → heldFitb (f (threadOf k t)) (g (heldAt k t)) ≡ true → Does.Proper k n a (record { success = done; words = words; relinquishes = b; edits = moves t (turns f g) ∷ [] })
   unfolding recordBy startsb mayb mayMoveb allb Lines.unstartedb
   proper-turn t f g words b small was fit low holds =
-      proper-one done words b (moves t (turns f g)) (record { small = small; fit = fit; was = was; is = States.rest-not-paused (f (threadOf k t)) low }) (holds, low) refl refl
+      proper-one done words b (moves t (turns f g)) (record { small = small; fit = fit; was = was; is = States.rest-not-paused (f (threadOf k t)) low; blank = tt }) (holds, low) refl refl
 
   -- a record changes where the thread stands
-  pub proper-alter : (t : ℕ) (f : Thread → Thread) (words : List ℕ) → Fits.Altered k t (f (threadOf k t)) → f (threadOf k t) .ticks ≡ threadOf k t .ticks → Does.Proper k n a (gives words (alters t f ∷ []))
-  unfolding mayb allb Lines.unstartedb
-  proper-alter t f words A e = proper-one done words false (alters t f) (A, e) tt refl refl
+  pub proper-alter : (t : ℕ) (f : Thread → Thread) (words : List ℕ) → Fits.Altered k t (f (threadOf k t)) → f (threadOf k t) .ticks ≡ threadOf k t .ticks → mayb n a (alters t f) ≡ true → Does.Proper k n a (gives words (alters t f ∷ []))
+  unfolding allb Lines.unstartedb
+  proper-alter t f words A e m = proper-one done words false (alters t f) (A, e) tt m refl
 
   -- a wait ends
-  pub ends-moved : (t : ℕ) (c : Cause) (words : List ℕ) → Fits.Was (ends c words) (threadOf k t) → Fits.Moved k t (ends c words)
+  pub ends-moved : (t : ℕ) (c : Cause) (words : List ℕ) → Fits.Blank c words → Fits.Was (ends c words) (threadOf k t) → Fits.Moved k t (ends c words)
   unfolding recordBy startsb
-  ends-moved t c words was =
+  ends-moved t c words blank was =
       let made = States.paused-made (threadOf k t) (Fits.ends-paused c words (threadOf k t) was) in
       let small = States.created-small (k .scheduler) (F .steady) t made in
-      record { small = small; fit = States.fit-awake (threadOf k t) made (F .steady .fit t small); was = was; is = States.rest-not-paused (awake (threadOf k t)) (States.awake-state (threadOf k t)) }
+      record { small = small; fit = States.fit-awake (threadOf k t) made (F .steady .fit t small); was = was; is = States.rest-not-paused (awake (threadOf k t)) (States.awake-state (threadOf k t)); blank = blank }
 
-  pub proper-end : (t : ℕ) (c : Cause) (words : List ℕ) → Fits.Was (ends c words) (threadOf k t) → mayMoveb n a t (ends c words) ≡ true → Does.Proper k n a (does (moves t (ends c words) ∷ []))
+  pub proper-end : (t : ℕ) (c : Cause) (words : List ℕ) → Fits.Blank c words → Fits.Was (ends c words) (threadOf k t) → mayMoveb n a t (ends c words) ≡ true → Does.Proper k n a (does (moves t (ends c words) ∷ []))
   unfolding mayb startsb allb Lines.unstartedb
-  proper-end t c words was m = proper-one done noWords false (moves t (ends c words)) (ends-moved t c words was) tt m refl
+  proper-end t c words blank was m = proper-one done noWords false (moves t (ends c words)) (ends-moved t c words blank was) tt m refl
 
   -- the running thread begins to wait or sleep
   pub proper-start : Sound k → runnerOf k < 32 → (front : Bool) (state object ticks : ℕ) (h : Held) → 4 ≤ state → state ≤ 8 → (state ≡ 4 → object ≡ 0) → 0 < ticks
@@ -127,6 +127,7 @@ module _ (k : Kernel) (F : Fit k) (n a : ℕ) where
         fit = States.fit-in-wait state object ticks (threadOf k t) made (F .steady .fit t l) low known o pos;
         was = States.rest-not-paused (threadOf k t) (omega (arith, ready));
         is = States.paused-in (inState state object ticks (threadOf k t)) made low;
+        blank = tt;
       })
       (holds (inState state object ticks (threadOf k t)) made refl, w) m (t, starts front state object ticks h, refl, refl)
 
@@ -160,7 +161,7 @@ pub proper-all : (k : Kernel) → Fit k → (n a : ℕ) (es : List Edit) (words 
 proper-all k F n a es words fits once may shape = record { requires = Fits.requires-of k es fits; fit = Fits.fit-all k F es fits; once = once; may = may; shape = shape }
 
 -- ---- the waits of several end
-module _ (c : Cause) (words : List ℕ) where
+module _ (c : Cause) (words : List ℕ) (blank : Fits.Blank c words) where
   counted-each : (xs : List ℕ) → counted (endsEach c words xs) ≡ []
   unfolding gathered endsEach
   counted-each [] = refl
@@ -178,7 +179,7 @@ module _ (c : Cause) (words : List ℕ) where
   fits-each k F (t ∷ ts) once was =
       let here = Lists.count-here t ts in
       let e1 = moves t (ends c words) in
-      let g = ends-moved k F 0 0 t c words (was t (omega (arith, here))) in (
+      let g = ends-moved k F 0 0 t c words blank (was t (omega (arith, here))) in (
         (g, tt),
         fits-each (edited k e1) (Fits.fit-edit k F e1 g tt) ts
             (λ u. by-eq u t

@@ -51,15 +51,39 @@ Was (starts front state object ticks h) th = pausedb th ≡ false
 Was stops th = Unit {0}
 Was (turns f g) th = pausedb th ≡ false
 
+-- words come only with a wait that is served
+abbrev pub Blank : Cause → List ℕ → Type 0
+Blank (served d n) words = Unit {0}
+Blank (deleted d n) words = words ≡ noWords
+Blank timedOut words = words ≡ noWords
+Blank aborted words = words ≡ noWords
+
+pub blank-none : (c : Cause) → Blank c noWords
+blank-none (served d n) = tt
+blank-none (deleted d n) = refl
+blank-none timedOut = refl
+blank-none aborted = refl
+
+abbrev pub BlankMove : Move → Type 0
+BlankMove (ends c words) = Blank c words
+BlankMove (starts front state object ticks h) = Unit {0}
+BlankMove stops = Unit {0}
+BlankMove (turns f g) = Unit {0}
+
 pub record Moved (k : Kernel) (t : ℕ) (m : Move) : Type 0 where
   pub small : t < 32
   pub fit : fitb (recordBy m (threadOf k t)) ≡ true
   pub was : Was m (threadOf k t)
   pub is : pausedb (recordBy m (threadOf k t)) ≡ startsb m
+  pub blank : BlankMove m
 
 -- what the tests of soundness read of a thread's record besides its fitness: created, state and object
 unfoldable pub seen : Thread → Thread
 seen th = record { created = th .created; state = th .state; priority = 0; threshold = 0; marked = false; suspending = false; object = th .object; ticks = 0 }
+
+-- what a call keeps of a waiter's record that it does not alter: its levels, and a suspension that it holds
+unfoldable pub levels : Thread → Thread
+levels th = record { created = false; state = 0; priority = th .priority; threshold = th .threshold; marked = false; suspending = th .suspending; object = 0; ticks = 0 }
 
 -- a record that changes where the thread stands
 pub record Altered (k : Kernel) (t : ℕ) (th : Thread) : Type 0 where
@@ -382,6 +406,10 @@ fit-all k F (e ∷ es) G = fit-all (edited k e) (fit-edit k F e (G .0 .0) (G .0 
 pub mark-seen : (b : Bool) (th : Thread) → seen (withMark b th) ≡ seen th
 unfolding seen withMark
 mark-seen b th = refl
+
+pub mark-levels : (b : Bool) (th : Thread) → levels (withMark b th) ≡ levels th
+unfolding levels withMark
+mark-levels b th = refl
 
 pub fit-chosen : (k : Kernel) → Fit k → (b : Bool) → Fit (withScheduler k (rescheduled (k .scheduler) b))
 fit-chosen k F b =

@@ -1,14 +1,14 @@
 -- Laws of the table of refusals: of every known call it says what the code's chain says.
 use mathlib.Core.Path.{_≡_, refl, sym, ap, _∙_}
-use mathlib.Core.List.{List}
+use mathlib.Core.List.{List, [], _∷_}
 use mathlib.Core.Bool.{Bool, true, false, _&&_, _||_, not}
 use Prim.Native.Nat.{ℕ, _+_, _<_, min}
 use native.Mathlib.Omega.{arith}
 use lib.Dec.{eqb, ltb, leb}
 use lib.ListN.{length}
-use borrow.Author.Tests.{eqb-false, ltb-true, ltb-false, le-leb, lt-leb, ne-eqb, eq-eqb}
+use borrow.Author.Tests.{eqb-false, ltb-true, ltb-false, le-leb, lt-leb, ne-eqb, eq-eqb, not-true}
 use Rattle.lines.specs.Logic.{if_then_else_}
-use Rattle.lines.proofs.Laws.Logic.{by-test, by-choice}
+use Rattle.lines.proofs.Laws.Logic.{by-test, by-choice, and-left, and-right}
 use Rattle.scheduler.specs.Threads.{finishedb}
 use Rattle.calls.specs.Callers.{allowedb}
 use Rattle.calls.specs.Calls.{decoded, knownCall}
@@ -23,7 +23,7 @@ use Rattle.objects.specs.Queues.{emptyb, roomb}
 use Rattle.objects.specs.Groups.{metb}
 use Rattle.kernel.specs.Tables.{threadOf, runnerOf, semaphoreAt, queueAt, groupAt, poolAt}
 use Rattle.kernel.specs.Roles.{limitOf}
-use Rattle.kernel.specs.Refusals.{refusals, firstReason, reasonOf}
+use Rattle.kernel.specs.Refusals.{Reason, refusals, firstReason, reasonOf}
 use Rattle.kernel.specs.Chains.{chainOf, nobodyRunsb, chained}
 
 -- ---- what a row says, and what the chain's link tests
@@ -159,3 +159,20 @@ unfolding decoded
 same-reason k q messages =
     by-choice (Same k (q .caller) (q .a) (q .b) (q .c) (q .d) messages (q .number)) (ltb 2 (q .caller)) Unknown (knownCall (q .number) (q .a) (q .b) (q .c) (q .d))
     (λ e. tt) (λ e. known-same k (q .caller) (q .a) (q .b) (q .c) (q .d) messages (q .number))
+
+-- ---- what holds of the statuses of all rows holds of a reason
+abbrev allRows : (ℕ → Bool) → List Reason → Bool
+allRows f [] = true
+allRows f (r ∷ rs) = f (r .status) && allRows f rs
+
+of-rows : (f : ℕ → Bool) (rs : List Reason) (k : Kernel) (q : Request) (messages : List ℕ) → f 0 ≡ true → allRows f rs ≡ true → f (firstReason rs k q messages) ≡ true
+unfolding firstReason
+of-rows f [] k q messages z a = z
+of-rows f (r ∷ rs) k q messages z a =
+    by-choice (λ (s : ℕ). f s ≡ true) (r .calls (q .number) && r .when k q messages) (r .status) (firstReason rs k q messages)
+    (λ e. and-left (f (r .status)) (allRows f rs) a) (λ e. of-rows f rs k q messages z (and-right (f (r .status)) (allRows f rs) a))
+
+-- no row gives 0x100
+pub reason-known : (k : Kernel) (q : Request) (messages : List ℕ) → eqb (reasonOf k q messages) Statuses.tablesUnsound ≡ false
+unfolding reasonOf refusals
+reason-known k q messages = not-true _ (of-rows (λ s. not (eqb s Statuses.tablesUnsound)) refusals k q messages refl refl)

@@ -15,7 +15,7 @@ use Rattle.calls.specs.declared.call.Decoded.the-variants.{Known, Unknown}
 use Rattle.calls.proofs.Laws.Calls.{by-number}
 use Rattle.kernel.specs.declared.Kernel.{Kernel}
 use Rattle.kernel.specs.Tables.{runnerOf}
-use Rattle.kernel.specs.Answers.{Outcome, refused}
+use Rattle.kernel.specs.Answers.{Outcome, answerOf, refused}
 use Rattle.kernel.specs.Sound.{Sound}
 use Rattle.kernel.specs.Roles.{limitOf}
 use Rattle.kernel.specs.Edits.{guarded}
@@ -23,7 +23,7 @@ use Rattle.kernel.specs.Refusals.{reasonOf}
 use Rattle.kernel.specs.Chains.{chainOf, nobodyRunsb, chained}
 use Rattle.kernel.specs.General.{effectOf, stepOf, step}
 use Rattle.kernel.specs.Claims.{doneb, Unchanged}
-use Rattle.kernel.proofs.Laws.Refusals.{Same, same-reason}
+use Rattle.kernel.proofs.Laws.Refusals.{Same, same-reason, reason-known}
 use Rattle.kernel.proofs.Laws.Does
 use Rattle.kernel.proofs.Laws.Calls.Threads
 use Rattle.kernel.proofs.Laws.Calls.Clock
@@ -111,12 +111,22 @@ module _ (k : Kernel) (q : Request) (messages : List ℕ) where
   unfolding step decoded
   step-does S = request-does S (decoded q) (same-reason k q messages) (decoded-does k (q .caller) (q .a) (q .b) (q .c) (q .d) messages (q .number))
 
-  request-refused : (x : Decoded) → doneb (stepOf k q x messages .status) ≡ false → Unchanged k (stepOf k q x messages)
-  unfolding stepOf refused
-  request-refused (Known call) = Does.guarded-refused k (reasonOf k q messages) (effectOf k call messages)
-  request-refused Unknown = λ u. record { kernel = refl; words = refl; ended = refl }
-
   -- on any tables a refused call changes nothing
-  pub step-refused : doneb (step k q messages .status) ≡ false → Unchanged k (step k q messages)
+  request-refused : (x : Decoded) → doneb (stepOf k q x messages .status) ≡ false → Unchanged k (answerOf (stepOf k q x messages))
+  unfolding stepOf refused answerOf
+  request-refused (Known call) = Does.guarded-refused k (reasonOf k q messages) (effectOf k call messages) (reason-known k q messages)
+  request-refused Unknown = λ u. record { kernel = refl; words = refl; ended = refl; next = refl }
+
+  pub step-refused : doneb (step k q messages .status) ≡ false → Unchanged k (answerOf (step k q messages))
   unfolding step
   step-refused = request-refused (decoded q)
+
+  -- and a step gives no 0x100
+  request-known : (x : Decoded) → eqb (stepOf k q x messages .status) Statuses.tablesUnsound ≡ false
+  unfolding stepOf refused
+  request-known (Known call) = Does.guarded-known k (reasonOf k q messages) (effectOf k call messages) (reason-known k q messages)
+  request-known Unknown = refl
+
+  pub step-known : eqb (step k q messages .status) Statuses.tablesUnsound ≡ false
+  unfolding step
+  step-known = request-known (decoded q)

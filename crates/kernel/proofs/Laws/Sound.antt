@@ -28,7 +28,7 @@ use Rattle.kernel.specs.declared.Kernel.{Kernel}
 use Rattle.kernel.specs.Tables.{started, threadOf, heldAt, semaphoreAt, queueAt, groupAt, poolAt}
 use Rattle.kernel.specs.Kinds.{Kind, Object, sizeOf, stateOn, tableOf, objectAt, noObject, recordFitb, waitb}
 use Rattle.kernel.specs.Kinds.Kind.{semaphore, queue, group, pool}
-use Rattle.kernel.specs.Sound.{waitFitb, soundb, MayWait, Sound}
+use Rattle.kernel.specs.Sound.{waitFitb, soundb, Sized, MayWait, Sound}
 use Rattle.kernel.proofs.Laws.Objects
 use Rattle.kernel.proofs.Laws.Objects.{by-kind}
 use Rattle.kernel.proofs.Laws.Fits
@@ -117,26 +117,26 @@ module _ (k : Kernel) where
   abbrev fit-test : Kind → Bool
   fit-test d = allBelow (sizeOf d) (λ n. recordFitb d (objectAt d k n))
 
-  pub tested : length (k .scheduler .threads) ≡ 32 → length (k .held) ≡ 32 → ((d : Kind) → length (tableOf d k) ≡ sizeOf d) → soundb k ≡ true → Sound k
+  pub tested : Sized k → soundb k ≡ true → Sound k
   unfolding soundb semaphoresFitb queuesFitb groupsFitb poolsFitb semaphoreAt queueAt groupAt poolAt
-  tested threads held sized e =
+  tested Z e =
       let to-waits : Bool = threads-test && allBelow 32 (waitFitb k) in
       let g = and-left _ _ e in
       let q = and-left _ _ g in
       let s = and-left _ _ q in
       let w = and-left to-waits _ s in
       let h = and-left threads-test _ w in
-      let t = Testing.tested (k .scheduler) threads (and-left _ _ h) in
+      let t = Testing.tested (k .scheduler) (Z .records) (and-left _ _ h) in
       let fit : (d : Kind) (n : ℕ) → n < sizeOf d → recordFitb d (objectAt d k n) ≡ true = by-kind (λ d. (n : ℕ) → n < sizeOf d → recordFitb d (objectAt d k n) ≡ true)
       (all-at 16 _ (and-right to-waits _ s)) (all-at 8 _ (and-right (to-waits && fit-test semaphore) _ q))
       (all-at 8 _ (and-right (to-waits && fit-test semaphore && fit-test queue) _ g)) (all-at 4 _ (and-right (to-waits && fit-test semaphore && fit-test queue && fit-test group) _ e)) in
       record {
         fit = record {
           steady = t .steady;
-          heldSized = held;
+          heldSized = Z .held;
           held = all-at 32 _ (and-right (Scheduling.soundb (k .scheduler)) _ h);
           waits = λ u l. asked k u (all-at 32 _ (and-right threads-test _ w) u l);
-          objects = λ d. record { sized = sized d; fit = fit d };
+          objects = λ d. record { sized = Z .objects d; fit = fit d };
         };
         runs = t .runs;
       }
@@ -156,4 +156,4 @@ started-passes = refl
 
 pub started-sound : Sound started
 unfolding started Orders.idle
-started-sound = tested started refl refl (by-kind (λ d. length (tableOf d started) ≡ sizeOf d) refl refl refl refl) started-passes
+started-sound = tested started (record { records = refl; held = refl; objects = by-kind (λ d. length (tableOf d started) ≡ sizeOf d) refl refl refl refl }) started-passes

@@ -90,7 +90,7 @@ module _ (d : Kind) (k : Kernel) (F : Fit k) (i : ℕ) where
   -- the first in line is served
   pub serve-proper : (n a : ℕ) (words : List ℕ) → waitedb k d i ≡ true → mayMoveb n a first (ends (served d i) words) ≡ true → Does.Proper k n a (serveEffect k d i words)
   unfolding serveEffect
-  serve-proper n a words q m = Effects.proper-end k F n a first (served d i) words (first-waits q) m
+  serve-proper n a words q m = Effects.proper-end k F n a first (served d i) words tt (first-waits q) m
 
   -- a record on which nobody waits, and the record of a new object
   pub unwaited : (x : Object d) → i < sizeOf d → recordFitb d x ≡ true → waitedb k d i ≡ false → Fits.Stored d k i x
@@ -111,11 +111,11 @@ module _ (d : Kind) (k : Kernel) (F : Fit k) (i : ℕ) where
   close-proper n a c x was small fit m s =
       let once : (u : ℕ) → _ = λ u. Orders.line-once (k .scheduler) (F .steady) u (placeOf d i) in
       let wait : (u : ℕ) → 0 < count u line → Fits.Was (ends c noWords) (threadOf k u) = λ u q. was (threadOf k u) (Fits.line-placed (k .scheduler) (F .steady) (placeOf d i) u q) in
-      Effects.proper-each c noWords k F line once wait n a d i x noWords
+      Effects.proper-each c noWords (Fits.blank-none c) k F line once wait n a d i x noWords
       (record {
         small = small;
         fit = fit;
-        free = λ t l w o. (let e = Effects.each-left c noWords k F line once wait d t w in
+        free = λ t l w o. (let e = Effects.each-left c noWords (Fits.blank-none c) k F line once wait d t w in
             line-others t (e .0) (Changes.kept-waits k _ t 0 (e .1) (stateOn d) ∙ w) (Changes.kept-object k _ t 0 (e .1) ∙ o));
       })
       m s

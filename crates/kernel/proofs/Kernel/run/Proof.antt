@@ -28,7 +28,7 @@ use Rattle.kernel.proofs.Laws.Arms.{on-unknown, on-known}
 use Rattle.kernel.proofs.Laws.Runs.{after-more, take-smaller, unsound-all, sound-record, replied-more, sound-reply, unsound-replies}
 use Rattle.kernel.proofs.Laws.Objects.{by-kind}
 use Rattle.kernel.proofs.Laws.Sound.{tested}
-use Rattle.kernel.proofs.Laws.Claims.{claims}
+use Rattle.kernel.proofs.Laws.Claims.{step-sound}
 use Rattle.kernel.proofs.Kernel.run.Statement.{statement}
 use Rattle.kernel.proofs.Kernel.run.Tie as tie
 
@@ -51,7 +51,11 @@ abbrev μ-loop : tie.MeasureT-loop
 -- ---- what the test finds of the tables at the start
 module _ (x : tie.Start Inv-loop μ-loop) where
   sound : soundb (x .args .self) ≡ true → Sound (x .args .self)
-  sound = tested (x .args .self) (search length-mapped) (search length-mapped) (by-kind (λ d. length (tableOf d (x .args .self)) ≡ sizeOf d) (search length-mapped) (search length-mapped) (search length-mapped) (search length-mapped))
+  sound = tested (x .args .self) (record {
+    records = search length-mapped;
+    held = search length-mapped;
+    objects = by-kind (λ d. length (tableOf d (x .args .self)) ≡ sizeOf d) (search length-mapped) (search length-mapped) (search length-mapped) (search length-mapped);
+  })
 
 -- ---- the words of the messages, as they are lent
 module _ (m : tie.After-message-count Inv-loop μ-loop) where
@@ -95,7 +99,7 @@ module _ (read : tie.After-record-at Inv-loop μ-loop) where
 
   module _ {o : Outcome} (e : o ≡ step tables r messages) where
     sound-after : Sound (o .kernel)
-    sound-after = subst (λ (x : Outcome). Sound (x .kernel)) (sym e) (claims .stepSound tables (turn .loop .inv .3) r messages)
+    sound-after = subst (λ (x : Outcome). Sound (x .kernel)) (sym e) (step-sound tables (turn .loop .inv .3) r messages)
 
     tables-after : o .kernel ≡ afterRecords first messages (take (turn .loop .i + 1) (recordsOf bytes))
     tables-after =

@@ -78,7 +78,7 @@ below-all f a b k (suc n) = Edits.all-append f (ticksBelow n k) (tickOf (threadO
 tick-fits : (k : Kernel) → Fit k → (t : ℕ) → Fits.Fits k (tickOf (threadOf k t) t)
 unfolding tickOf
 tick-fits k F t =
-    by-choice (Fits.Fits k) (lastTickb (threadOf k t)) _ _ (λ e. ((Effects.ends-moved k F 0 0 t timedOut noWords e, tt), tt)) (λ e.
+    by-choice (Fits.Fits k) (lastTickb (threadOf k t)) _ _ (λ e. ((Effects.ends-moved k F 0 0 t timedOut noWords refl e, tt), tt)) (λ e.
     by-choice (Fits.Fits k) (timedb (threadOf k t)) _ _ (λ q. (((q, e), tt), tt)) (λ q. tt))
 
 below-fits : (k : Kernel) → Fit k → (n : ℕ) → Fits.Fits k (ticksBelow n k)

@@ -93,11 +93,11 @@ module _ (k : Kernel) (b c : ℕ) (messages : List ℕ) (caller n : ℕ) where
       let left = lessFlags flags (clearsBy k n flags) in
       let once : (u : ℕ) → count u woken ≤ 1 = λ u. (let p = Lists.count-part met u line in let o = Orders.line-once (k .scheduler) (F .steady) u (placeOf group n) in omega (arith, p, o)) in
       let was : (u : ℕ) → 0 < count u woken → placedb (placeOf group n) (threadOf k u) ≡ true = λ u l. Fits.line-placed (k .scheduler) (F .steady) (placeOf group n) u (let p = Lists.count-part met u line in omega (arith, p, l)) in
-      Effects.proper-each (served group n) (oneWord flags) k F woken once was 31 n group n (groupWith left) noWords
+      Effects.proper-each (served group n) (oneWord flags) tt k F woken once was 31 n group n (groupWith left) noWords
       (record {
         small = Objects.object-small group k (S .fit) n made;
         fit = with-fit left;
-        free = λ t l w o. (let e = Effects.each-left (served group n) (oneWord flags) k F woken once was group t w in
+        free = λ t l w o. (let e = Effects.each-left (served group n) (oneWord flags) tt k F woken once was group t w in
             let v = Changes.kept-waits k _ t 0 (e .1) 7 ∙ w in
             let i = Changes.kept-object k _ t 0 (e .1) ∙ o in
             let unmet : met t ≡ false = by-test (met t)

@@ -157,11 +157,11 @@ module _ (k : Kernel) (b c : ℕ) (messages : List ℕ) (caller n : ℕ) where
       let fit = Objects.object-fit queue k F n made in
       let once : (u : ℕ) → count u (f ∷ []) ≤ 1 = Effects.once-only f in
       let was : (u : ℕ) → 0 < count u (f ∷ []) → placedb (placeOf queue n) (threadOf k u) ≡ true = λ u l. ap (λ (v : ℕ). placedb (placeOf queue n) (threadOf k v)) (Effects.only-one f u l) ∙ p in
-      Effects.proper-each (served queue n) noWords k F (f ∷ []) once was 26 n queue n x _
+      Effects.proper-each (served queue n) noWords tt k F (f ∷ []) once was 26 n queue n x _
       (record {
         small = Objects.object-small queue k F n made;
         fit = Records.past-fit q fit made front message;
-        free = λ t l w o. (let e = Effects.each-left (served queue n) noWords k F (f ∷ []) once was queue t w .1 in
+        free = λ t l w o. (let e = Effects.each-left (served queue n) noWords tt k F (f ∷ []) once was queue t w .1 in
             let v = Objects.waits-here queue k F n t l (Changes.kept-waits k _ t 0 e 5 ∙ w) (Changes.kept-object k _ t 0 e ∙ o) in
             let s = wait-sends (heldAt k t) q v some in
             let bl = wait-sender (heldAt k t) q v s in

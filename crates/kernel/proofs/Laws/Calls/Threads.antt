@@ -129,16 +129,16 @@ module _ (k : Kernel) (b c : ℕ) (messages : List ℕ) (caller t : ℕ) where
   resume-does =
       Does.plain Does.none (λ S runs z. (let made = Effects.is-true _ Statuses.threadError _ (omega arith) z in
       by-choice (Does.Proper k 3 t) (th .suspending) _ _
-      (λ q. Effects.proper-one k (S .fit) 3 t lifted noWords false (alters t (withSuspension false)) (suspension k (S .fit) t made false (λ w. never w refl), refl) tt refl (t, withSuspension false, refl))
+      (λ q. Effects.proper-one k (S .fit) 3 t lifted noWords false (alters t (withSuspension false)) (suspension k (S .fit) t made false (λ w. never w refl), refl) tt (Effects.here t) (t, withSuspension false, refl))
       (λ q. rested k (S .fit) t made 3 t 0 (omega arith) (suspended-low q (unless-none _ Statuses.resumeError (omega arith) (second-none _ _ z))))))
 
   -- ---- 4
   pub suspend-does : Does.Does k caller 4 t b c messages (suspendRefusal th) (suspendEffect k t)
-  unfolding suspendRefusal suspendEffect withSuspension
+  unfolding suspendRefusal suspendEffect withSuspension mayb
   suspend-does =
       Does.plain Does.none (λ S runs z. (let made = Effects.is-true _ Statuses.threadError _ (omega arith) z in
       by-choice (Does.Proper k 4 t) (pausedb th) _ _
-      (λ q. Effects.proper-alter k (S .fit) 4 t t (withSuspension true) noWords (suspension k (S .fit) t made true (λ w. q)) refl)
+      (λ q. Effects.proper-alter k (S .fit) 4 t t (withSuspension true) noWords (suspension k (S .fit) t made true (λ w. q)) refl (Effects.here t))
       (λ q. by-choice (Does.Proper k 4 t) (readyb th) _ _
       (λ r. rested k (S .fit) t made 4 t 3 (omega arith) (ready-low th r))
       (λ r. Effects.proper-none k (S .fit) 4 t noWords))))
@@ -149,7 +149,7 @@ module _ (k : Kernel) (b c : ℕ) (messages : List ℕ) (caller t : ℕ) where
   stops-proper S made =
       let F = S .fit in
       Effects.proper-one k F 5 t done noWords false (moves t stops)
-      (record { small = small k F t made; fit = States.fit-at-rest 2 th made (fit-old k F t made) (omega arith); was = tt; is = States.rest-not-paused (atRest 2 th) (omega arith) }) made (eq-eqb t t refl) refl
+      (record { small = small k F t made; fit = States.fit-at-rest 2 th made (fit-old k F t made) (omega arith); was = tt; is = States.rest-not-paused (atRest 2 th) (omega arith); blank = tt }) made (eq-eqb t t refl) refl
 
   pub terminate-does : Does.Does k caller 5 t b c messages (terminateRefusal th caller) (terminateEffect k t)
   unfolding terminateRefusal terminateEffect
@@ -195,11 +195,11 @@ module _ (k : Kernel) (b c : ℕ) (messages : List ℕ) (caller t : ℕ) where
   pub abort-does : Does.Does k caller 10 t b c messages (abortRefusal th) (abortEffect t)
   unfolding abortRefusal abortEffect mayMoveb
   abort-does =
-      Does.plain (tt, tt, tt, tt, tt, refl, tt) (λ S runs z. Effects.proper-end k (S .fit) 10 t t aborted noWords (unless-none _ Statuses.waitAbortError (omega arith) (second-none _ _ z)) (eq-eqb t t refl))
+      Does.plain (tt, tt, tt, tt, tt, refl, tt) (λ S runs z. Effects.proper-end k (S .fit) 10 t t aborted noWords refl (unless-none _ Statuses.waitAbortError (omega arith) (second-none _ _ z)) (eq-eqb t t refl))
 
   -- ---- 11, 12
   pub priority-does : (p : ℕ) → Does.Does k caller 11 t b c messages (priorityRefusal th p caller) (priorityEffect k t p)
-  unfolding priorityRefusal priorityEffect withLevels
+  unfolding priorityRefusal priorityEffect withLevels mayb
   priority-does p =
       Does.plain Does.none (λ S runs z. (let made = Effects.is-true _ Statuses.threadError _ (omega arith) z in
       let low = ltb-true p 32 (Effects.is-true (ltb p 32) Statuses.priorityError _ (omega arith) (second-none _ _ z)) in
@@ -207,16 +207,16 @@ module _ (k : Kernel) (b c : ℕ) (messages : List ℕ) (caller t : ℕ) where
       (λ y. let l = ready-low th y in
       Effects.proper-turn k (S .fit) 11 t t (lowered p) keeps _ false (small k (S .fit) t made) (States.rest-not-paused th l) (lowered-fit k (S .fit) t made p low) l
       (Held.held-same (lowered p th) th made l made l (heldAt k t) (S .fit .held t (small k (S .fit) t made))))
-      (λ y. Effects.proper-alter k (S .fit) 11 t t (lowered p) _ (levels k (S .fit) t made p _ (lowered-fit k (S .fit) t made p low) (λ q. Records.levels-placed p _ th y q)) refl)))
+      (λ y. Effects.proper-alter k (S .fit) 11 t t (lowered p) _ (levels k (S .fit) t made p _ (lowered-fit k (S .fit) t made p low) (λ q. Records.levels-placed p _ th y q)) refl (Effects.here t))))
 
   pub preemption-does : (h : ℕ) → Does.Does k caller 12 t b c messages (preemptionRefusal th h caller) (preemptionEffect k t h)
-  unfolding preemptionRefusal preemptionEffect withLevels
+  unfolding preemptionRefusal preemptionEffect withLevels mayb
   preemption-does h =
       Does.plain Does.none (λ S runs z. Effects.proper-alter k (S .fit) 12 t t (λ y. withLevels (y .priority) h y) _
       (let made = Effects.is-true _ Statuses.threadError _ (omega arith) z in
       let le = leb-true h (th .priority) (Effects.is-true _ Statuses.threshError _ (omega arith) (second-none _ _ z)) in
       let fit = fit-old k (S .fit) t made in
-      levels k (S .fit) t made (th .priority) h (Records.fit-levels (th .priority) h th fit made (Records.fit-low th fit) le) (λ q. Records.same-levels-placed h th q)) refl)
+      levels k (S .fit) t made (th .priority) h (Records.fit-levels (th .priority) h th fit made (Records.fit-low th fit) le) (λ q. Records.same-levels-placed h th q)) refl (Effects.here t))
 
   -- ---- 38, 39
   pub state-does : Does.Does k caller 38 t b c messages (readRefusal th) (stateEffect k t)
