@@ -1,10 +1,13 @@
 pub mod Steps
 pub mod Members
 pub mod Serving
+pub mod Served
 pub mod Rolls
 pub mod Counts
-pub mod Claims
-pub mod Served
+pub mod Leaving
+pub mod Ahead
 pub mod Entries
+pub mod Late
+pub mod Claims
 pub mod Accounts
 pub mod Cases

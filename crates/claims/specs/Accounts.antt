@@ -1,30 +1,23 @@
 -- Accounts from history (rules 13.5, 13.6): what a semaphore counts and how many blocks a pool has free, from the calls since its creation.
 use mathlib.Core.Path.{_≡_}
 use mathlib.Core.List.{List, [], _∷_}
-use mathlib.Core.Bool.{Bool, true, false, _&&_, not}
+use mathlib.Core.Bool.{Bool, true, false, _&&_}
 use Prim.Native.Nat.{ℕ, _+_, _-_, _/_, _%_, _<_, _≤_}
 use lib.ListN.{length}
-use lib.Dec.{eqb}
 use Rattle.lines.specs.Logic.{oneIf}
 use Rattle.lines.specs.Lists.{filter}
 use Rattle.scheduler.specs.Orders.{lineAt}
 use Rattle.blocks.specs.Pools.{blocksOf, freeBlocks}
-use Rattle.scheduler.specs.Threads.{finishedb}
 use Rattle.calls.specs.Services.{semaphoreCreate, blockPoolCreate}
-use Rattle.calls.specs.Statuses as Statuses
 use Rattle.kernel.specs.declared.Kernel.{Kernel}
-use Rattle.kernel.specs.Tables.{threadOf, heldAt, semaphoreAt, poolAt}
+use Rattle.kernel.specs.Tables.{semaphoreAt, poolAt}
 use Rattle.kernel.specs.Sound.{Sound}
 use Rattle.kernel.specs.Kinds.{Kind, placeOf}
 use Rattle.kernel.specs.Roles.{rowOf}
 use Rattle.claims.specs.Lists.{Made, answer, next, after}
-use Rattle.claims.specs.Rolls.{onb, takesb, succeedsb, gave}
+use Rattle.claims.specs.Rolls.{onb, takesb, succeedsb, gave, servedb}
 
 -- ---- who is served
--- rule 13.6: a thread that waited is served: it holds 0x00 and is not finished, since terminate clears what a thread holds
-unfoldable pub servedb : Kernel → ℕ → Bool
-servedb x t = eqb (heldAt x t .status) Statuses.success && not (finishedb (threadOf x t))
-
 -- rule 13.6: how many of those who waited there a call serves, whatever call it is
 unfoldable pub servedLater : Kind → ℕ → Kernel → Made → ℕ
 servedLater d n k m = length (filter (servedb (next k m)) (lineAt (k .scheduler) (placeOf d n)))

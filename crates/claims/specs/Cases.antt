@@ -1,31 +1,35 @@
--- Worked cases (rules 15.1 to 15.12), P1 to P10 as one list, each made of general calls from nothing created, as equations that the
--- definitions compute. Proved as `cases` of proofs/Laws/Cases.antt.
+-- Worked cases (rules 15.1 to 15.12, 15.14, 15.15), P1 to P10 as one list, each made of general calls from nothing created, as equations that
+-- the definitions compute. Proved as `cases` of proofs/Laws/Cases.antt.
 use mathlib.Core.Path.{_≡_}
 use mathlib.Core.List.{List, [], _∷_}
-use Prim.Native.Nat.{ℕ}
+use mathlib.Core.Bool.{true, false}
+use Prim.Native.Nat.{ℕ, zero, suc}
 use Rattle.lines.specs.Lists.{numbersFrom}
+use Rattle.scheduler.specs.Threads.{ready, suspended}
 use Rattle.scheduler.specs.Orders.{lineAt}
 use Rattle.calls.specs.Callers.{startup, interrupt, thread}
-use Rattle.objects.specs.Queues.{capacityOf}
 use Rattle.blocks.specs.Pools.{blocksOf}
 use Rattle.calls.specs.Held.{oneWord, heldWords}
 use Rattle.calls.specs.Statuses as Statuses
 use Rattle.waiting.specs.Ticks.{forever}
 use Rattle.kernel.specs.declared.Kernel.{Kernel}
 use Rattle.kernel.specs.declared.Answer.{Answer}
-use Rattle.kernel.specs.Tables.{started, runnerOf, heldAt, semaphoreAt, queueAt, groupAt, poolAt}
+use Rattle.kernel.specs.Tables.{started, runnerOf, threadOf, heldAt, semaphoreAt, groupAt, poolAt}
 use Rattle.kernel.specs.Kinds.{Kind, placeOf}
 use Rattle.kernel.specs.Views.{blockView}
-use Rattle.claims.specs.Lists.{answer}
+use Rattle.claims.specs.Lists.{Made, answer}
 
--- the lent message words: three messages of one word, A, B and C
+-- the lent message words: of messages of one word the first three are A, B and C; all together they are one message of four words
 abbrev pub messages : List ℕ
-messages = 10 ∷ 11 ∷ 12 ∷ []
+messages = 10 ∷ 11 ∷ 12 ∷ 13 ∷ []
 
--- the answer to a call with four arguments, those that it does not use being 0
+-- a call with four arguments, those that it does not use being 0
+unfoldable pub called : ℕ → ℕ → ℕ → ℕ → ℕ → ℕ → Made
+called number caller a b c d = record { request = record { number = number; caller = caller; a = a; b = b; c = c; d = d }; messages = messages }
+
+-- its answer
 unfoldable pub said : Kernel → ℕ → ℕ → ℕ → ℕ → ℕ → ℕ → Answer
-said k number caller a b c d =
-    answer k (record { request = record { number = number; caller = caller; a = a; b = b; c = c; d = d }; messages = messages })
+said k number caller a b c d = answer k (called number caller a b c d)
 
 -- the tables after it
 unfoldable pub made : Kernel → ℕ → ℕ → ℕ → ℕ → ℕ → ℕ → Kernel
@@ -59,9 +63,18 @@ asks k t request option = made (made k 1 startup t 10 10 1) 32 thread 0 request 
 unfoldable pub p4 : Kernel
 p4 = asks (asks (asks (made started 29 startup 0 0 0 0) 0 1 1) 1 1 0) 2 3 2
 
+-- rule 15.4, P4: and then a set of flag 1 with option 0
+unfoldable pub p4set : Answer
+p4set = said p4 31 interrupt 0 1 0 0
+
 -- rule 15.5, P5: a group with all flags set
 unfoldable pub p5 : Kernel
 p5 = made (made started 29 startup 0 0 0 0) 31 startup 0 0xFFFFFFFF 0 0
+
+-- rule 15.6, P6: a queue for messages of four words in ten, to which a message is sent so many times
+unfoldable pub p6 : ℕ → Kernel
+p6 zero = made started 22 startup 0 4 10 0
+p6 (suc n) = made (p6 n) 24 startup 0 0 0 0
 
 -- rule 15.7, P7: capacity 1 holding A; thread 0 waits to send B, then thread 1 waits to front send C
 unfoldable pub p7 : Kernel
@@ -85,23 +98,36 @@ p8 =
 unfoldable pub timedOutGet : Kernel
 timedOutGet = made (made (withCount 0) 18 thread 0 1 0 0) 15 interrupt 0 0 0 0
 
--- rules 15.1 to 15.12: the cases
+-- rule 15.14: thread 0 starts on tables, makes a call with wait 1, and a tick passes; what it then holds
+unfoldable pub timedOut : Kernel → ℕ → ℕ → ℕ → ℕ → ℕ → ℕ
+timedOut k number a b c d =
+    heldAt (made (made (made k 1 startup 0 10 10 1) number thread a b c d) 15 interrupt 0 0 0 0) 0 .status
+
+-- rule 15.15: a get without end at count 0, the waiting thread suspended, and a put
+unfoldable pub suspendedGet : Kernel
+suspendedGet = made (made (made (withCount 0) 18 thread 0 forever 0 0) 4 interrupt 0 0 0 0) 19 interrupt 0 0 0 0
+
+-- rules 15.1 to 15.12, 15.14, 15.15: the cases
 pub record Cases : Type 0 where
   -- rule 15.1: clock 4,294,967,295, after a tick 0
   pub p1 : made (made started 14 startup 4294967295 0 0 0) 15 interrupt 0 0 0 0 .clock ≡ 0
   -- rule 15.2: count 0xFFFFFFFF, after a put 0
   pub p2 : semaphoreAt (made (withCount 0xFFFFFFFF) 19 interrupt 0 0 0 0) 0 .count ≡ 0
-  -- rule 15.3: 7 changes nothing, 4 runs, it finishes, and the runner returns, not 7
+  -- rule 15.3: 7 changes nothing, 4 runs and the runner is marked, it finishes, and the runner returns, not 7, its mark ended
   pub p3 : (runnerOf p3a ≡ 0) × (runnerOf p3b ≡ 2) × (runnerOf (made p3b 7 thread 0 0 0 0) ≡ 0)
-  -- rule 15.4: a set of 1 with option 0: the first two wake and hold 1, no flag is left, two waits ended
-  pub p4ended : said p4 31 interrupt 0 1 0 0 .ended ≡ 2
-  pub p4held : (heldWords (heldAt (made p4 31 interrupt 0 1 0 0) 0) ≡ oneWord 1)
-      × (heldWords (heldAt (made p4 31 interrupt 0 1 0 0) 1) ≡ oneWord 1)
-  pub p4flags : groupAt (made p4 31 interrupt 0 1 0 0) 0 .flags ≡ 0
+  pub p3mark : (threadOf p3a 0 .marked ≡ false) × (threadOf p3b 0 .marked ≡ true) × (threadOf (made p3b 7 thread 0 0 0 0) 0 .marked ≡ false)
+  -- rule 15.4: the first two wake, are ready and hold 0x00 and 1, no flag is left, two waits ended, and the third still waits
+  pub p4ended : p4set .ended ≡ 2
+  pub p4ready : (threadOf (p4set .kernel) 0 .state ≡ ready) × (threadOf (p4set .kernel) 1 .state ≡ ready)
+  pub p4status : (heldAt (p4set .kernel) 0 .status ≡ Statuses.success) × (heldAt (p4set .kernel) 1 .status ≡ Statuses.success)
+  pub p4held : (heldWords (heldAt (p4set .kernel) 0) ≡ oneWord 1) × (heldWords (heldAt (p4set .kernel) 1) ≡ oneWord 1)
+  pub p4flags : groupAt (p4set .kernel) 0 .flags ≡ 0
+  pub p4line : lineAt (p4set .kernel .scheduler) (placeOf Kind.group 0) ≡ 2 ∷ []
   -- rule 15.5: a request of 0 with wait 0: 0x07
   pub p5 : said p5 32 startup 0 0 0 0 .status ≡ Statuses.noEvents
-  -- rule 15.6: storage 10 for messages of 4 words, capacity 2; storage 3: 0x05
-  pub p6 : (capacityOf (queueAt (made started 22 startup 0 4 10 0) 0) ≡ 2) × (said started 22 startup 0 4 3 0 .status ≡ Statuses.sizeError)
+  -- rule 15.6: storage 10 for messages of 4 words takes two, the third is refused with 0x0B; storage 3: 0x05
+  pub p6 : (said (p6 0) 24 startup 0 0 0 0 .status ≡ Statuses.success) × (said (p6 1) 24 startup 0 0 0 0 .status ≡ Statuses.success)
+      × (said (p6 2) 24 startup 0 0 0 0 .status ≡ Statuses.queueFull) × (said started 22 startup 0 4 3 0 .status ≡ Statuses.sizeError)
   -- rule 15.7: receives give C, A, B
   pub p7 : (receive p7 .words ≡ oneWord 12) × (receive (receive p7 .kernel) .words ≡ oneWord 10)
       × (receive (receive (receive p7 .kernel) .kernel) .words ≡ oneWord 11)
@@ -119,3 +145,12 @@ pub record Cases : Type 0 where
   pub timeout : heldAt timedOutGet 0 .status ≡ Statuses.noInstance
   -- rule 15.12: an interrupt with wait 1: 0x04 even at count 5
   pub interruptWait : said (withCount 5) 18 interrupt 0 1 0 0 .status ≡ Statuses.waitError
+  -- rule 15.14: what a wait that times out leaves: get, receive, send, flags get, allocate, and a sleep
+  pub timeouts : (timedOut (made started 16 startup 0 0 0 0) 18 0 1 0 0 ≡ Statuses.noInstance)
+      × (timedOut (made started 22 startup 0 1 1 0) 26 0 1 0 0 ≡ Statuses.queueEmpty)
+      × (timedOut (made (made started 22 startup 0 1 1 0) 24 startup 0 0 0 0) 24 0 1 0 0 ≡ Statuses.queueFull)
+      × (timedOut (made started 29 startup 0 0 0 0) 32 0 1 0 1 ≡ Statuses.noEvents)
+      × (timedOut (made (made started 33 startup 0 4 8 0) 35 startup 0 0 0 0) 35 0 1 0 0 ≡ Statuses.noMemory)
+      × (timedOut started 9 1 0 0 0 ≡ Statuses.success)
+  -- rule 15.15: the thread is served, and is then suspended
+  pub suspendedServed : (threadOf suspendedGet 0 .state ≡ suspended) × (heldAt suspendedGet 0 .status ≡ Statuses.success)

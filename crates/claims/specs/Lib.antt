@@ -1,4 +1,5 @@
 pub mod Lists
 pub mod Rolls
 pub mod Cases
+pub mod Witnesses
 pub mod Accounts

@@ -1,22 +1,24 @@
 -- First come, first served, counted (rules 13.1 to 13.4). The roll is kept from the calls and their statuses alone.
 use mathlib.Core.Path.{_≡_}
 use mathlib.Core.List.{List, [], _∷_, _++_}
-use mathlib.Core.Bool.{Bool, true, false, _&&_, _||_}
-use Prim.Native.Nat.{ℕ, _+_, _-_, _<_}
+use mathlib.Core.Bool.{Bool, true, false, _&&_, _||_, not}
+use Prim.Native.Nat.{ℕ, _+_, _-_, _<_, _≤_}
 use lib.ListN.{length}
 use lib.Dec.{eqb, ltb}
 use Rattle.lines.specs.Logic.{if_then_else_, oneIf}
-use Rattle.lines.specs.Lists.{count, Begins}
+use Rattle.lines.specs.Lists.{filter, onlyIf, count, less, Begins}
+use Rattle.scheduler.specs.Threads.{ready, suspended, terminated, finishedb}
 use Rattle.scheduler.specs.Orders.{lineAt}
 use Rattle.calls.specs.Services.{threadTerminate, threadWaitAbort, tick}
-use Rattle.calls.specs.Held.{heldWords}
+use Rattle.calls.specs.Held.{noWords, noHeld, heldWords}
 use Rattle.calls.specs.Statuses as Statuses
 use Rattle.waiting.specs.Ticks.{forever}
 use Rattle.kernel.specs.declared.Kernel.{Kernel}
 use Rattle.kernel.specs.declared.Answer.{Answer}
-use Rattle.kernel.specs.Tables.{threadOf, heldAt}
+use Rattle.kernel.specs.Tables.{threadOf, heldAt, runnerOf}
+use Rattle.kernel.specs.Sound.{Sound}
 use Rattle.kernel.specs.Kinds.{Kind, placeOf}
-use Rattle.kernel.specs.Kinds.Kind.{queue}
+use Rattle.kernel.specs.Kinds.Kind.{semaphore, queue, group, pool}
 use Rattle.calls.specs.Callers.{oneOf}
 use Rattle.kernel.specs.Roles.{rowOf}
 use Rattle.kernel.specs.Uses.{rolledb, givenWords}
@@ -42,6 +44,14 @@ prioritisesOrDeletesb d n m = onb n m (rowOf d .prioritises) || onb n m (rowOf d
 -- rule 13.2: the call answers 0x00; only such a call counts
 unfoldable pub succeedsb : Answer → Bool
 succeedsb x = eqb (x .status) Statuses.success
+
+-- rule 13.4: the call answers 0x101: its caller, the running thread, begins to wait
+unfoldable pub beginsWaitb : Answer → Bool
+beginsWaitb x = eqb (x .status) Statuses.waiting
+
+-- rule 4.8: the object's line: those who wait on it, in order
+abbrev pub waitersOf : Kind → ℕ → Kernel → List ℕ
+waitersOf d n k = lineAt (k .scheduler) (placeOf d n)
 
 -- ---- the roll
 -- rule 13.1: a member of the roll, with its ticks left
@@ -119,19 +129,60 @@ NoPrioritiseOrDelete d n k [] = Unit {0}
 NoPrioritiseOrDelete d n k (m ∷ ms) =
     ((prioritisesOrDeletesb d n m && succeedsb (answer k m)) ≡ false) × NoPrioritiseOrDelete d n (next k m) ms
 
--- ---- after each call
--- rule 13.3: the object's line begins with the roll, and nobody whom the call struck off it stands in the line
-pub record Kept (d : Kind) (n : ℕ) (m : Made) (r : List Entry) (x : Answer) : Type 0 where
-  pub begins : Begins (names (rolled d n m x r)) (lineAt (x .kernel .scheduler) (placeOf d n))
-  pub gone : (u : ℕ) → 0 < count u (names r) → count u (names (rolled d n m x r)) ≡ 0
-      → count u (lineAt (x .kernel .scheduler) (placeOf d n)) ≡ 0
+-- ---- how a member leaves
+-- rules 5.4, 5.6: from tables k to tables x the wait of thread u on the object is over, with a status s and words ws: it stands in the line
+-- no more, is ready, or suspended where a suspension was held for it, and holds them
+pub record Ends (d : Kind) (n u : ℕ) (k x : Kernel) (s : ℕ) (ws : List ℕ) : Type 0 where
+  pub gone : count u (waitersOf d n x) ≡ 0
+  pub state : threadOf x u .state ≡ (if threadOf k u .suspending then suspended else ready)
+  pub status : heldAt x u .status ≡ s
+  pub words : heldWords (heldAt x u) ≡ ws
 
--- rule 13.3: this holds after each call up to and including the one that strikes thread t off
-abbrev pub KeptAll : Kind → ℕ → ℕ → Kernel → List Entry → List Made → Type 0
-KeptAll d n t k r [] = Unit {0}
-KeptAll d n t k r (m ∷ ms) =
-    Kept d n m r (answer k m)
-    × (lastsb t (rolled d n m (answer k m) r) ≡ true → KeptAll d n t (next k m) (rolled d n m (answer k m) r) ms)
+-- rule 6.4: the thread is terminated: it stands in the line no more, and holds nothing
+pub record Stops (d : Kind) (n u : ℕ) (x : Kernel) : Type 0 where
+  pub gone : count u (waitersOf d n x) ≡ 0
+  pub state : threadOf x u .state ≡ terminated
+  pub held : heldAt x u ≡ noHeld
+
+-- rule 5.5: the status of a wait to take that times out there: that of a call that finds nothing and does not wait
+abbrev pub nothingThere : Kind → ℕ
+nothingThere semaphore = Statuses.noInstance
+nothingThere queue = Statuses.queueEmpty
+nothingThere group = Statuses.noEvents
+nothingThere pool = Statuses.noMemory
+
+-- rules 5.4, 13.2: how thread u leaves by a call that strikes it off and leads from tables k to tables x
+pub data Left (d : Kind) (n u : ℕ) (k x : Kernel) (m : Made) : Type 0 where
+  -- as served, by a call that gives to the object: it holds 0x00 and what was given
+  served : givesb d n m ≡ true → Ends d n u k x Statuses.success (givenWords d k n (m .request .b) (m .request .c) (m .messages))
+      → Left d n u k x m
+  -- by a wait abort that names it: 0x1A
+  aborted : m .request .number ≡ threadWaitAbort → m .request .a ≡ u → Ends d n u k x Statuses.waitAborted noWords → Left d n u k x m
+  -- by the tick that is its last
+  timedOut : m .request .number ≡ tick → Ends d n u k x (nothingThere d) noWords → Left d n u k x m
+  -- by a terminate that names it
+  stopped : m .request .number ≡ threadTerminate → m .request .a ≡ u → Stops d n u x → Left d n u k x m
+
+-- ---- after one call, on tables k with roll r
+-- rule 13.3: the object's line begins with the roll, and whomever the call struck off has left
+pub record Kept (d : Kind) (n : ℕ) (k : Kernel) (r : List Entry) (m : Made) : Type 0 where
+  pub begins : Begins (names (rolled d n m (answer k m) r)) (waitersOf d n (next k m))
+  pub left : (u : ℕ) → 0 < count u (names r) → count u (names (rolled d n m (answer k m) r)) ≡ 0 → Left d n u k (next k m) m
+
+-- ---- those ahead
+-- rule 13.3: whom a call strikes off the roll
+unfoldable pub struckOff : Kind → ℕ → Made → Answer → List Entry → List ℕ
+struckOff d n m x r = filter (λ u. eqb (count u (names (rolled d n m x r))) 0) (names r)
+
+-- rule 13.3: who has left by a list of calls: all whom its calls struck off
+unfoldable pub leftBy : Kind → ℕ → Kernel → List Entry → List Made → List ℕ
+leftBy d n k r [] = []
+leftBy d n k r (m ∷ ms) = struckOff d n m (answer k m) r ++ leftBy d n (next k m) (rolled d n m (answer k m) r) ms
+
+-- rule 13.3: those before thread t in a line
+unfoldable pub aheadOf : ℕ → List ℕ → List ℕ
+aheadOf t [] = []
+aheadOf t (u ∷ us) = if eqb u t then [] else u ∷ aheadOf t us
 
 -- ---- counting
 -- rule 13.4: how many giving calls on the object are done in a list of calls
@@ -139,12 +190,23 @@ unfoldable pub gave : Kind → ℕ → Kernel → List Made → ℕ
 gave d n k [] = 0
 gave d n k (m ∷ ms) = oneIf (givesb d n m && succeedsb (answer k m)) + gave d n (next k m) ms
 
--- rule 13.4: as long as the wait lasts, no get, receive or allocate made there is served
-abbrev pub NoneServed : Kind → ℕ → ℕ → Kernel → List Entry → List Made → Type 0
-NoneServed d n t k r [] = Unit {0}
-NoneServed d n t k r (m ∷ ms) =
-    ((takesb d n m && succeedsb (answer k m)) ≡ false)
-    × (lastsb t (rolled d n m (answer k m) r) ≡ true → NoneServed d n t (next k m) (rolled d n m (answer k m) r) ms)
+-- rule 13.6: a thread that waited is served: it holds 0x00 and is not finished, since terminate clears what a thread holds
+unfoldable pub servedb : Kernel → ℕ → Bool
+servedb x t = eqb (heldAt x t .status) Statuses.success && not (finishedb (threadOf x t))
+
+-- rule 13.4: the latecomers after a call: those before it, and the caller of a get, receive or allocate there that begins to wait, as far as
+-- they still stand in the line
+unfoldable pub lateAfter : Kind → ℕ → Kernel → List ℕ → Made → List ℕ
+lateAfter d n k late m =
+    filter (λ u. ltb 0 (count u (waitersOf d n (next k m)))) (late ++ onlyIf (takesb d n m && beginsWaitb (answer k m)) (runnerOf k))
+
+-- rule 13.4: how many gets, receives and allocates made there in a list of calls are served, at once, or later by whatever call where the
+-- caller waited; those who came before and are counted too are the list `late`
+unfoldable pub servedLate : Kind → ℕ → Kernel → List ℕ → List Made → ℕ
+servedLate d n k late [] = 0
+servedLate d n k late (m ∷ ms) =
+    oneIf (takesb d n m && succeedsb (answer k m)) + length (filter (servedb (next k m)) late)
+    + servedLate d n (next k m) (lateAfter d n k late m) ms
 
 -- rule 13.4: nobody on the roll times out, is aborted or terminated: only giving calls strike off
 abbrev pub Undisturbed : Kind → ℕ → Kernel → List Entry → List Made → Type 0
@@ -152,23 +214,45 @@ Undisturbed d n k r [] = Unit {0}
 Undisturbed d n k r (m ∷ ms) =
     (givesb d n m ≡ false → names (rolled d n m (answer k m) r) ≡ names r) × Undisturbed d n (next k m) (rolled d n m (answer k m) r) ms
 
--- rule 13.4: the thread is served by a call: it holds 0x00 and what the call gives
-pub record Served (d : Kind) (n t : ℕ) (k : Kernel) (m : Made) : Type 0 where
-  pub status : heldAt (next k m) t .status ≡ Statuses.success
-  pub words : heldWords (heldAt (next k m) t) ≡ givenWords d k n (m .request .b) (m .request .c) (m .messages)
+-- rule 13.4: in a list of calls there is one, not behind the giving call after the first j, after which thread t stands in the line no more and
+-- waits no more
+pub record Over (d : Kind) (n t j : ℕ) (k : Kernel) (ms : List Made) : Type 0 where
+  pub before : List Made
+  pub call : Made
+  pub rest : List Made
+  pub among : ms ≡ before ++ (call ∷ rest)
+  pub by : gave d n k before ≤ j
+  pub gone : count t (waitersOf d n (next (after k before) call)) ≡ 0
+  pub status : heldAt (next (after k before) call) t .status ≡ Statuses.waiting → ⊥
 
 -- ---- the claim
--- rules 13.3, 13.4: the claim, with k the number of those ahead. It is proved from any sound tables in which a thread waits as rule 13.1
--- says.
-pub record Claim (k : Kernel) (d : Kind) (n : ℕ) (ahead : List ℕ) (t : ℕ) : Type 0 where
-  -- rule 13.3: the line begins with the roll after each call up to and including the one that strikes the thread off
-  pub kept : (ms : List Made) → NoPrioritiseOrDelete d n k ms → KeptAll d n t k (startRoll k ahead t) ms
-  -- rule 13.4: nobody who comes later is served before it
-  pub noneServed : (ms : List Made) → NoPrioritiseOrDelete d n k ms → NoneServed d n t k (startRoll k ahead t) ms
+-- rules 13.3, 13.4: what holds of thread t, which waits behind those in the list `ahead`, and a list of calls ms; its wait lasts after the calls
+-- `before` where it is still on the roll
+pub record Claim (k : Kernel) (d : Kind) (n : ℕ) (ahead : List ℕ) (t : ℕ) (ms : List Made) : Type 0 where
+  -- rule 13.3: after each call up to and including the one that strikes the thread off, the line begins with the roll, and who was struck
+  -- off has left
+  pub kept : (before : List Made) (m : Made) (rest : List Made) → ms ≡ before ++ (m ∷ rest)
+      → lastsb t (rollAfter d n k (startRoll k ahead t) before) ≡ true
+      → Kept d n (after k before) (rollAfter d n k (startRoll k ahead t) before) m
+  -- rule 13.3: as long as the wait lasts, those ahead are those who were, less those who have left, in their old order
+  pub order : (before rest : List Made) → ms ≡ before ++ rest → lastsb t (rollAfter d n k (startRoll k ahead t) before) ≡ true
+      → aheadOf t (waitersOf d n (after k before)) ≡ less (leftBy d n k (startRoll k ahead t) before) ahead
+  -- rule 13.4: up to and including the call that strikes the thread off, nobody is served who made a get, receive or allocate there
+  pub noneServed : (before : List Made) (m : Made) (rest : List Made) → ms ≡ before ++ (m ∷ rest)
+      → lastsb t (rollAfter d n k (startRoll k ahead t) before) ≡ true → servedLate d n k [] (before ++ (m ∷ [])) ≡ 0
   -- rule 13.4: the wait is over by the giving call after the first k
-  pub over : (ms : List Made) → length ahead < gave d n k ms → lastsb t (rollAfter d n k (startRoll k ahead t) ms) ≡ false
+  pub over : length ahead < gave d n k ms → Over d n t (length ahead) k ms
   -- rule 13.4: where nobody on the roll leaves without being served, exactly that call serves the thread
-  pub served : (ms : List Made) (m : Made) → NoPrioritiseOrDelete d n k ms
-      → Undisturbed d n k (startRoll k ahead t) ms → gave d n k ms ≡ length ahead
-      → givesb d n m ≡ true → succeedsb (answer (after k ms) m) ≡ true
-      → (lastsb t (rollAfter d n k (startRoll k ahead t) ms) ≡ true) × Served d n t (after k ms) m
+  pub served : (before : List Made) (m : Made) (rest : List Made) → ms ≡ before ++ (m ∷ rest)
+      → Undisturbed d n k (startRoll k ahead t) before → gave d n k before ≡ length ahead
+      → givesb d n m ≡ true → succeedsb (answer (after k before) m) ≡ true
+      → (lastsb t (rollAfter d n k (startRoll k ahead t) before) ≡ true)
+      × Ends d n t (after k before) (next (after k before) m) Statuses.success
+      (givenWords d (after k before) n (m .request .b) (m .request .c) (m .messages))
+
+-- rules 13.1 to 13.4: first come, first served, counted: from any sound tables in which a thread waits behind others, for every list of
+-- calls, by any callers and with any arguments and message words, in which no prioritise or delete of the object is done
+abbrev pub FirstComeFirstServed : Type 0
+FirstComeFirstServed =
+    (k : Kernel) → Sound k → (d : Kind) (n : ℕ) (ahead : List ℕ) (t : ℕ) → Waits k d n ahead t
+    → (ms : List Made) → NoPrioritiseOrDelete d n k ms → Claim k d n ahead t ms

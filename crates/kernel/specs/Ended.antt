@@ -16,6 +16,7 @@ use Rattle.calls.specs.declared.held.Held.{Held}
 use Rattle.calls.specs.Held.{noWords, heldWords}
 use Rattle.calls.specs.Callers.{oneOf}
 use Rattle.calls.specs.Services.{
+  threadTerminate,
   threadWaitAbort,
   tick,
   semaphoreDelete,
@@ -103,3 +104,6 @@ pub record EndedClaims : Type 0 where
   -- rule 5.3: whoever waited or slept before the call, and does so after it, waits or sleeps on
   pub stays : (k : Kernel) → Sound k → (q : Request) (messages : List ℕ) (t : ℕ)
       → pausedb (threadOf k t) ≡ true → pausedb (threadOf (call k q messages .kernel) t) ≡ true → Stays k (call k q messages .kernel) t
+  -- rules 2.8, 6.4: whoever waited or slept before the call, and is terminated after it, is the thread that a terminate names
+  pub stops : (k : Kernel) → Sound k → (q : Request) (messages : List ℕ) (t : ℕ)
+      → pausedb (threadOf k t) ≡ true → threadOf (call k q messages .kernel) t .state ≡ terminated → (q .number ≡ threadTerminate) × (q .a ≡ t)

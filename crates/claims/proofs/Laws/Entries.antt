@@ -47,7 +47,7 @@ module _ (d : Kind) (n : ℕ) (small : n < sizeOf d) (m : Made) (nc : onb n m (r
   apart-of : (c : Kind) (j : ℕ) (l : Kind → List ℕ) → Serving.Own d (l d) → onb n m (l d) ≡ false → eqb j (target m) ≡ true → oneOf i (l c) ≡ true → not (sameb (placeOf d n) (placeOf c j)) ≡ true
   apart-of c j l own f a y = ap not (Serving.elsewhere d n small m c j l own f a y)
 
-  may-apart : (e : Edit) → mayb i (target m) e ≡ true → apartb (placeOf d n) e ≡ true
+  pub may-apart : (e : Edit) → mayb i (target m) e ≡ true → apartb (placeOf d n) e ≡ true
   unfolding mayb mayMoveb apartb
   may-apart (moves t (ends (served c j) words)) y =
       let a = and-left (eqb j (target m)) _ y in
@@ -98,7 +98,7 @@ starts-apart p t (starts front state object ticks h) s = refl
 starts-apart p t stops s = refl
 starts-apart p t (turns f g) s = refl
 
-by-success : {R : Type 0} (p : Place) (s : Success) (es : List Edit) → Does.Shape s es → (s ≡ done → R) → (eqb (statusOf s) 0 ≡ false → allb (apartb p) es ≡ true → R) → R
+pub by-success : {R : Type 0} (p : Place) (s : Success) (es : List Edit) → Does.Shape s es → (s ≡ done → R) → (eqb (statusOf s) 0 ≡ false → allb (apartb p) es ≡ true → R) → R
 unfolding statusOf allb apartb
 by-success p done es h f g = f refl
 by-success p lifted es h f g = g refl (ap (allb (apartb p)) (h .2))

@@ -42,6 +42,7 @@ pub record Passes (p : Place) (k x : Kernel) (r s : List Entry) : Type 0 where
   pub rolls : Rolls p x s
   pub gone : (u : ℕ) → 0 < count u (names r) → count u (names s) ≡ 0 → count u (lineAt (x .scheduler) p) ≡ 0
   pub held : (u : ℕ) → 0 < count u (names s) → heldAt x u ≡ heldAt k u
+  pub part : (ts : List ℕ) × (names s ≡ less ts (names r))
 
 -- a member of the roll stands in the line
 pub member : (p : Place) (k : Kernel) (r : List Entry) → Rolls p k r → (u : ℕ) → 0 < count u (names r) → 0 < count u (lineAt (k .scheduler) p)
@@ -105,6 +106,7 @@ module _ (p : Place) (k x : Kernel) (ts cs : List ℕ) (A : Leaves p k x ts cs) 
             (λ i. absurd (let y = Less.less-kept ts (names r) u i in let same = ap (count u) n in omega (arith, c, z, y, same)))
             (λ i. A .gone u (omega (arith, i)));
         held = λ u c. stays u (let same = ap (count u) n in omega (arith, c, same)) .held;
+        part = (ts, n);
       }
 
   -- where no ticks are counted

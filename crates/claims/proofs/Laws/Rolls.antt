@@ -30,7 +30,7 @@ use Rattle.kernel.proofs.Laws.Does
 use Rattle.kernel.proofs.Laws.Does.{Shape, Proper}
 use Rattle.kernel.specs.declared.Kernel.{Kernel}
 use Rattle.kernel.specs.Tables.{threadOf, heldAt, withScheduler, withHeld}
-use Rattle.kernel.specs.Kinds.{Kind, sizeOf, stateOn, placeOf}
+use Rattle.kernel.specs.Kinds.{Kind, sizeOf, stateOn, placeOf, objectAt, createdb}
 use Rattle.kernel.specs.Sound.{Fit, Sound}
 use Rattle.kernel.specs.Edits.{statusBy, Move, heldBy, Edit, edited, applied, gathered, movers, counted, startsb, leavesb, Success, statusOf, Effect, carriedOut}
 use Rattle.kernel.specs.Edits.Cause.{served}
@@ -43,7 +43,7 @@ use Rattle.kernel.specs.Effects.{does}
 use Rattle.kernel.specs.Threads.{terminateEffect, abortEffect}
 use Rattle.kernel.specs.Uses.{Taker, rolledb, givenWords, Role}
 use Rattle.claims.specs.Lists.{Made, answer, next}
-use Rattle.claims.specs.Rolls.{Entry, names, rest, each, unnamed, ticked, onb, givesb, takesb, prioritisesOrDeletesb, succeedsb, strikeOut, rolled, rollOf, lastsb, Waits, startRoll, Kept, Served}
+use Rattle.claims.specs.Rolls.{Entry, names, rest, each, unnamed, ticked, onb, givesb, takesb, prioritisesOrDeletesb, succeedsb, strikeOut, rolled, rollOf, lastsb, Waits, startRoll, Left, Ends, Kept}
 use Rattle.claims.proofs.Laws.Steps.{target, next-sound, by-step}
 use Rattle.claims.proofs.Laws.Members
 use Rattle.claims.proofs.Laws.Serving
@@ -67,25 +67,28 @@ module _ (d : Kind) (o : rolledb d ≡ true) (n t : ℕ) (k : Kernel) (r : List 
   waiters = Objects.state-low d
 
   -- a member waits there
-  placed : (u : ℕ) → 0 < count u (names r) → placedb p (threadOf k u) ≡ true
+  pub placed : (u : ℕ) → 0 < count u (names r) → placedb p (threadOf k u) ≡ true
   placed u c = Fits.line-placed (k .scheduler) (F .steady) p u (Members.member p k r (L .rolls) u c)
 
-  small : (u : ℕ) → 0 < count u (names r) → u < 32
+  pub small : (u : ℕ) → 0 < count u (names r) → u < 32
   small u c = States.created-small (k .scheduler) (F .steady) u (Fits.placed-made p (threadOf k u) (placed u c))
 
-  taker : Taker d k n t
+  pub taker : Taker d k n t
   taker = (placed t (L .stands), L .takes)
 
-  low : n < sizeOf d
-  low =
+  -- the object is created
+  pub made : createdb d (objectAt d k n) ≡ true
+  made =
       let y = placed t (L .stands) in
-      Objects.object-small d k F n
-      (Objects.waits-created d k F n t (small t (L .stands)) (Held.in-state (stateOn d) (threadOf k t) (Fits.placed-made p (threadOf k t) y) (Fits.placed-state p (threadOf k t) y)) (Fits.placed-object p waiters (threadOf k t) y))
+      Objects.waits-created d k F n t (small t (L .stands)) (Held.in-state (stateOn d) (threadOf k t) (Fits.placed-made p (threadOf k t) y) (Fits.placed-state p (threadOf k t) y)) (Fits.placed-object p waiters (threadOf k t) y)
+
+  pub low : n < sizeOf d
+  low = Objects.object-small d k F n made
 
   not-member : (u : ℕ) → (0 < count u (names r) → ⊥) → without u (names r) ≡ names r
   not-member u f = Lists.without-none u (names r) (by-eq (count u (names r)) 0 (λ q. q) (λ q. absurd (f (omega (arith, q)))))
 
-  finished-not : (u : ℕ) → finishedb (threadOf k u) ≡ true → 0 < count u (names r) → ⊥
+  pub finished-not : (u : ℕ) → finishedb (threadOf k u) ≡ true → 0 < count u (names r) → ⊥
   finished-not u f c =
       let i = threadOf k u .state in
       let s = Fits.placed-state p (threadOf k u) (placed u c) in
@@ -107,7 +110,7 @@ module _ (d : Kind) (o : rolledb d ≡ true) (n t : ℕ) (k : Kernel) (r : List 
     x = carriedOut k e .kernel
 
     -- a giving call serves the first
-    first-served : givesb d n m ≡ true → e ≡ does (moves (firstAt (k .scheduler) p) (ends (served d n) (givenWords d k n (m .request .b) (m .request .c) (m .messages))) ∷ [])
+    pub first-served : givesb d n m ≡ true → e ≡ does (moves (firstAt (k .scheduler) p) (ends (served d n) (givenWords d k n (m .request .b) (m .request .c) (m .messages))) ∷ [])
     first-served g = Serving.gives-at d n low m k e R g .first o t taker
 
     left : (fs : List Edit) → es ≡ fs → allb Lines.unstartedb es ≡ true → allb (Lines.unrankedb p) es ≡ true → Members.Leaves p k x (movers (leavesb p) fs) (counted fs)
@@ -197,14 +200,6 @@ module _ (d : Kind) (o : rolledb d ≡ true) (n t : ℕ) (k : Kernel) (r : List 
     carried-passes lifted z kept-order = lifted-passes z
     carried-passes waits z kept-order = let (v, w, s, q) = subst (λ (y : Success). Shape y es) z (P .shape) in starts-passes v w s q z
 
-    -- the thread that is served holds 0x00 and what the call gives
-    served-holds : (words : List ℕ) → e ≡ does (moves (firstAt (k .scheduler) p) (ends (served d n) words) ∷ []) → firstAt (k .scheduler) p ≡ t → heldAt x t ≡ holding Statuses.success words
-    unfolding carriedOut applied edited withHeld withScheduler heldAt heldBy statusBy
-    served-holds words q i =
-        ap (λ (y : Effect). heldAt (carriedOut k y .kernel) t) q
-        ∙ ap (λ (v : ℕ). getD (set (k .held) v (holding Statuses.success words)) t noHeld) i
-        ∙ getD-set-same (k .held) t (holding Statuses.success words) noHeld (let l = small t (L .stands) in let h = F .heldSized in omega (arith, l, h))
-
   -- ---- any call
   -- no taking call is served
   pub none-taken : (takesb d n m && succeedsb (answer k m)) ≡ false
@@ -213,25 +208,13 @@ module _ (d : Kind) (o : rolledb d ≡ true) (n t : ℕ) (k : Kernel) (r : List 
       by-test (takesb d n m)
       (λ g. rw g (by-step k (L .sound) m (λ s y. eqb s 0 ≡ false) (λ s z. z) (λ e P R. ap (λ (s : Success). eqb (statusOf s) 0) (Serving.takes-at d n low m k e R g .waits o t taker)))) (λ g. rw g)
 
-  -- who is alone in the roll is served by a giving call
-  pub serves : names r ≡ t ∷ [] → givesb d n m ≡ true → succeedsb (answer k m) ≡ true → Served d n t k m
-  unfolding succeedsb holding heldWords firstAt
-  serves alone g z =
-      let first = Lists.begins-first t [] (lineAt (k .scheduler) p) (subst (λ (l : List ℕ). Begins l (lineAt (k .scheduler) p)) alone (L .rolls .begins)) in
-      let h = by-step k (L .sound) m (λ s y. eqb s 0 ≡ true → heldAt y t ≡ holding Statuses.success (givenWords d k n (m .request .b) (m .request .c) (m .messages))) (λ s q w. never w q) (λ e P R w. served-holds e P R _ (first-served e P R g) first) z in
-      record { status = ap (λ (y : Held). y .status) h; words = ap heldWords h }
-
   module _ (kept-order : (prioritisesOrDeletesb d n m && succeedsb (answer k m)) ≡ false) where
-    next-passes : Members.Passes p k (next k m) r (rolled d n m (answer k m) r)
+    pub next-passes : Members.Passes p k (next k m) r (rolled d n m (answer k m) r)
     unfolding rolled succeedsb
     next-passes =
         by-step k (L .sound) m (λ s y. (eqb s 0 ≡ true → prioritisesOrDeletesb d n m ≡ false) → Members.Passes p k y r (if eqb s 0 then strikeOut d n m r else r))
-        (λ s z f. rw z (record { rolls = L .rolls; gone = λ u c i. absurd (omega (arith, c, i)); held = λ u c. refl })) (λ e P R. carried-passes e P R (e .success) refl)
+        (λ s z f. rw z (record { rolls = L .rolls; gone = λ u c i. absurd (omega (arith, c, i)); held = λ u c. refl; part = ([], sym (Less.less-none (names r))) })) (λ e P R. carried-passes e P R (e .success) refl)
         (λ y. by-test (prioritisesOrDeletesb d n m) (λ u. never (and-in (prioritisesOrDeletesb d n m) _ u y) kept-order) (λ u. u))
-
-    pub kept : Kept d n m r (answer k m)
-    unfolding next
-    kept = record { begins = next-passes .rolls .begins; gone = next-passes .gone }
 
     -- the wait goes on where the thread is not struck out
     pub next-lasts : lastsb t (rolled d n m (answer k m) r) ≡ true → Lasts d n t (next k m) (rolled d n m (answer k m) r)

@@ -40,12 +40,12 @@ use Rattle.kernel.specs.Edits.Move.{ends, starts, stops, turns}
 use Rattle.kernel.specs.Edits.Edit.{moves, alters, counts, ranks, stores, sets}
 use Rattle.kernel.specs.Roles.{allb}
 use Rattle.kernel.specs.Effects.{waitedb}
-use Rattle.claims.specs.Accounts.{servedb}
+use Rattle.claims.specs.Rolls.{servedb}
 use Rattle.claims.proofs.Laws.Members
 
 -- ---- lists
 -- a test that holds of nobody in a list
-filter-none : (f : ℕ → Bool) (xs : List ℕ) → ((u : ℕ) → 0 < count u xs → f u ≡ false) → length (filter f xs) ≡ 0
+pub filter-none : (f : ℕ → Bool) (xs : List ℕ) → ((u : ℕ) → 0 < count u xs → f u ≡ false) → length (filter f xs) ≡ 0
 unfolding filter
 filter-none f [] h = refl
 filter-none f (x ∷ xs) h =
@@ -141,8 +141,12 @@ module _ (d : Kind) (n : ℕ) (k : Kernel) (F : Fit k) where
       (λ s. absurd (other (sym (Fits.placed-state p th w) ∙ eqb-true (th .state) 5 (and-right (th .created) _ (implies-out (h .sending) _ (and-left _ _ (and-left _ _ f)) s)))))
       (λ s. s)
 
+  -- who waits is not served
+  pub waiter-unserved : (u : ℕ) → 0 < count u line → servedb k u ≡ false
+  waiter-unserved u c = unserved k u (λ q. let w = waiter-status u (here u c) in omega (arith, q, w))
+
   pub later-same : later d n k k ≡ 0
-  later-same = filter-none (servedb k) line (λ u c. unserved k u (λ q. let w = waiter-status u (here u c) in omega (arith, q, w)))
+  later-same = filter-none (servedb k) line waiter-unserved
 
   -- ---- after a call
   module _ (number a : ℕ) (e : Effect) (P : Does.Proper k number a e) where
@@ -150,7 +154,7 @@ module _ (d : Kind) (n : ℕ) (k : Kernel) (F : Fit k) where
     x = carriedOut k e .kernel
 
     -- who does not move is not served
-    other-unserved : (u : ℕ) → placedb p (threadOf k u) ≡ true → count u (movers anyb (e .edits)) ≡ 0 → servedb x u ≡ false
+    pub other-unserved : (u : ℕ) → placedb p (threadOf k u) ≡ true → count u (movers anyb (e .edits)) ≡ 0 → servedb x u ≡ false
     other-unserved u w z =
         let y = ap (λ (h : Held). h .status) (Does.chosen-kept k number a e P u .held ∙ Changes.kept-all k (F .steady) (e .edits) (P .requires) u z .held) in
         unserved x u (λ q. let s = waiter-status u w in omega (arith, q, s, y))
@@ -170,10 +174,12 @@ module _ (d : Kind) (n : ℕ) (k : Kernel) (F : Fit k) where
     unfolding gathered
     later-stored y z = filter-none (servedb x) line (λ u c. other-unserved u (here u c) (ap (λ (es : List Edit). count u (movers anyb es)) z ∙ Less.count-none u))
 
+    pub apart-unserved : allb (apartb p) (e .edits) ≡ true → (u : ℕ) → 0 < count u line → servedb x u ≡ false
+    apart-unserved all u c =
+        by-eq (count u (movers anyb (e .edits))) 0 (other-unserved u (here u c)) (λ z. let W = moved-once u z in mover-served u (here u c) W ∙ ap not (W .among (apartb p) all))
+
     pub later-apart : allb (apartb p) (e .edits) ≡ true → later d n k x ≡ 0
-    later-apart all =
-        filter-none (servedb x) line
-        (λ u c. by-eq (count u (movers anyb (e .edits))) 0 (other-unserved u (here u c)) (λ z. let W = moved-once u z in mover-served u (here u c) W ∙ ap not (W .among (apartb p) all)))
+    later-apart all = filter-none (servedb x) line (apart-unserved all)
 
     -- the only edit serves the first
     pub later-first : (words : List ℕ) → waitedb k d n ≡ true → e .edits ≡ moves (firstAt (k .scheduler) p) (ends (served d n) words) ∷ [] → later d n k x ≡ 1

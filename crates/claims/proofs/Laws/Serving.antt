@@ -116,7 +116,7 @@ module _ (p : Place) (waiters : 4 < p .state) where
         }
 
 -- ---- the calls of an object
-or-false : (a b : Bool) → (a || b) ≡ false → (a ≡ false) × (b ≡ false)
+pub or-false : (a b : Bool) → (a || b) ≡ false → (a ≡ false) × (b ≡ false)
 or-false true b e = never refl e
 or-false false b e = (refl, e)
 
@@ -188,7 +188,7 @@ module _ (d : Kind) (n : ℕ) (small : n < sizeOf d) (m : Made) where
     unfolding mayb Lines.unrankedb prioritisesOrDeletesb
     unranked =
         Edits.by-edit (λ e. mayb (m .request .number) (target m) e ≡ true → Lines.unrankedb p e ≡ true) (λ t x y. refl) (λ t f y. refl) (λ t y. refl)
-        (λ c i y. ap not (elsewhere c i (λ b. rowOf b .prioritises) (own-row d .4) (or-false _ _ kept-order .0) (and-left _ _ y) (and-right (eqb i (target m)) _ y))) (λ c i x y. refl) (λ i y. refl)
+        (λ c i y. ap not (elsewhere c i (λ b. rowOf b .prioritises) (own-row d .4) (or-false (onb n m (rowOf d .prioritises)) (onb n m (rowOf d .deletes)) kept-order .0) (and-left _ _ y) (and-right (eqb i (target m)) _ y))) (λ c i x y. refl) (λ i y. refl)
 
     pub all-unranked : (es : List Edit) → allb (mayb (m .request .number) (target m)) es ≡ true → allb (Lines.unrankedb p) es ≡ true
     all-unranked = all-from (mayb (m .request .number) (target m)) (Lines.unrankedb p) unranked

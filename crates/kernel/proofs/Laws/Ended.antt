@@ -2,12 +2,12 @@
 use mathlib.Core.Path.{_≡_, refl, sym, ap, _∙_, subst}
 use mathlib.Core.List.{List, [], _∷_}
 use mathlib.Core.Bool.{Bool, true, false, _&&_, _||_, not, and-false}
-use Prim.Native.Nat.{ℕ, zero, suc, _+_, _<_, _≤_}
+use Prim.Native.Nat.{ℕ, zero, suc, _+_, _<_, _≤_, min}
 use Prim.{Unit, tt}
 use native.Mathlib.Omega.{arith}
 use lib.ListN.{length}
 use lib.Dec.{eqb, ltb}
-use borrow.Author.Tests.{eqb-true, ltb-true, ltb-false}
+use borrow.Author.Tests.{eqb-true, eq-eqb, ltb-true, ltb-false}
 use Rattle.lines.specs.Logic.{if_then_else_, oneIf}
 use Rattle.lines.specs.Lists.{numbersFrom, filter, without, count}
 use Rattle.lines.proofs.Laws.Logic.{by-test, by-eq, never, and-left, and-right, and-in, or-rest}
@@ -35,7 +35,7 @@ use Rattle.kernel.specs.Edits.{Cause, statusBy, Move, recordBy, heldBy, 
 use Rattle.kernel.specs.Edits.Cause.{served, deleted, timedOut, aborted}
 use Rattle.kernel.specs.Edits.Move.{ends, starts, stops, turns}
 use Rattle.kernel.specs.Edits.Edit.{moves, alters, counts, ranks, stores, sets}
-use Rattle.kernel.specs.Roles.{rowOf, mayMoveb, mayb, allb}
+use Rattle.kernel.specs.Roles.{rowOf, limitOf, mayMoveb, mayb, allb}
 use Rattle.kernel.specs.Refusals.{refusals}
 use Rattle.kernel.specs.General.{step, unsound, call}
 use Rattle.kernel.specs.Ended.{endedb, waitCall, lastReason, unservedb, endStatus, Wakes, Stays, EndedClaims}
@@ -122,6 +122,14 @@ awake-left th = go (th .suspending)
     go : (b : Bool) → eqb (if b then 3 else 0) 2 ≡ false
     go true = refl
     go false = refl
+
+-- who is awake is ready or suspended
+awake-low : (th : Thread) → (awake th .state ≡ 2 → ⊥)
+awake-low th z = never (eq-eqb (awake th .state) 2 z) (awake-left th)
+
+-- who waits or sleeps is in a state from 4 on
+paused-low : (th : Thread) → pausedb th ≡ true → 4 ≤ th .state
+paused-low th p = by-test (ltb (th .state) 4) (λ y. never p (States.rest-not-paused th (ltb-true (th .state) 4 y))) (λ y. ltb-false (th .state) 4 y)
 
 -- it has ended just by the moves that end it
 over-moved : (m : Move) (th : Thread) → Fits.Was m th → pausedb (recordBy m th) ≡ startsb m → over th (recordBy m th) ≡ endsb m
@@ -325,6 +333,23 @@ module _ (k : Kernel) (S : Sound k) (n a : ℕ) (e : Effect) (P : Does.Proper k 
       (λ z. let K = still z in record { state = ap (λ (t : Thread). t .state) (K .seen); object = ap (λ (t : Thread). t .object) (K .seen); held = K .held })
       (λ W. never q (moved-not-paused W p))
 
+  -- who waited and is terminated moved by a terminate that names it
+  stops-by : pausedb (threadOf k u) ≡ true → threadOf x u .state ≡ terminated → (n ≡ 5) × (a ≡ u)
+  unfolding Fits.seen recordBy mayb mayMoveb
+  stops-by p s =
+      by-mover
+      (λ z. absurd (let same = ap (λ (t : Thread). t .state) (still z .seen) in let low = paused-low (threadOf k u) p in omega (arith, same, low, s)))
+      (λ W. go W (W .move) refl (sym (paused-seen (threadOf (W .at) u)) ∙ ap pausedb (W .kept .seen) ∙ paused-seen (threadOf k u) ∙ p))
+    where
+      go : (W : Changes.MovedOnce k y (e .edits) u) (m : Move) → W .move ≡ m → pausedb (threadOf (W .at) u) ≡ true → (n ≡ 5) × (a ≡ u)
+      go W (ends c words) is w =
+          absurd (awake-low (threadOf (W .at) u) (sym (ap (λ (t : Thread). t .state) (moved-seen W ∙ ap (λ (v : Move). Fits.seen (recordBy v (threadOf (W .at) u))) is)) ∙ s))
+      go W (starts front state object ticks h) is w = never w (subst (λ (v : Move). Fits.Was v (threadOf (W .at) u)) is (W .was))
+      go W stops is w =
+          let m : mayMoveb n a u stops ≡ true = subst (λ (v : Move). mayMoveb n a u v ≡ true) is (W .among (mayb n a) (P .may)) in
+          (eqb-true n 5 (and-left (eqb n 5) (eqb u a) m), sym (eqb-true u a (and-right (eqb n 5) (eqb u a) m)))
+      go W (turns f g) is w = never w (subst (λ (v : Move). Fits.Was v (threadOf (W .at) u)) is (W .was))
+
 -- ---- any call
 stepped : (k : Kernel) → Sound k → (n a b c : ℕ) (messages : List ℕ) (o : Outcome) → Does.Step k n a b c messages o → (u : ℕ) → count u (o .ended) ≡ oneIf (endedb k (o .kernel) u)
 unfolding refused carriedOut endedb oneIf
@@ -340,6 +365,11 @@ stays-by : (k : Kernel) → Sound k → (n a b c : ℕ) (messages : List ℕ) (o
 unfolding refused
 stays-by k S n a b c messages o (Does.refuses s z is) u p = subst (λ (r : Outcome). pausedb (threadOf (r .kernel) u) ≡ true → Stays k (r .kernel) u) (sym is) (λ q. record { state = refl; object = refl; held = refl })
 stays-by k S n a b c messages o (Does.carries e is P role) u p = subst (λ (r : Outcome). pausedb (threadOf (r .kernel) u) ≡ true → Stays k (r .kernel) u) (sym is) (stays k S n a e P u p)
+
+stops-step : (k : Kernel) → Sound k → (n a b c : ℕ) (messages : List ℕ) (o : Outcome) → Does.Step k n a b c messages o → (u : ℕ) → pausedb (threadOf k u) ≡ true → threadOf (o .kernel) u .state ≡ terminated → (n ≡ 5) × (a ≡ u)
+unfolding refused
+stops-step k S n a b c messages o (Does.refuses s z is) u p = subst (λ (r : Outcome). threadOf (r .kernel) u .state ≡ terminated → (n ≡ 5) × (a ≡ u)) (sym is) (λ t. absurd (let low = paused-low (threadOf k u) p in omega (arith, low, t)))
+stops-step k S n a b c messages o (Does.carries e is P role) u p = subst (λ (r : Outcome). threadOf (r .kernel) u .state ≡ terminated → (n ≡ 5) × (a ≡ u)) (sym is) (stops-by k S n a e P u p)
 
 module _ (k : Kernel) (q : Request) (messages : List ℕ) where
   call-is : Sound k → answerOf (step k q messages) ≡ call k q messages
@@ -377,6 +407,14 @@ module _ (k : Kernel) (q : Request) (messages : List ℕ) where
   unfolding answerOf
   call-stays S t p = subst (λ (r : Answer). pausedb (threadOf (r .kernel) t) ≡ true → Stays k (r .kernel) t) (call-is S) (stays-by k S (q .number) _ (q .b) (q .c) messages _ (Services.step-does k q messages S) t p)
 
+  call-stops : Sound k → (t : ℕ) → pausedb (threadOf k t) ≡ true → threadOf (call k q messages .kernel) t .state ≡ terminated → (q .number ≡ 5) × (q .a ≡ t)
+  unfolding answerOf limitOf
+  call-stops S t p s =
+      let (i, a) = subst (λ (r : Answer). threadOf (r .kernel) t .state ≡ terminated → (q .number ≡ 5) × (min (q .a) (limitOf (q .number)) ≡ t)) (call-is S) (stops-step k S (q .number) _ (q .b) (q .c) messages _ (Services.step-does k q messages S) t p) s in
+      let l : limitOf (q .number) ≡ 32 = ap limitOf i in
+      let low = States.created-small (k .scheduler) (S .fit .steady) t (States.paused-made (threadOf k t) p) in
+      (i, omega (arith, a, l, low))
+
 pub ended : EndedClaims
 ended =
     record {
@@ -384,4 +422,5 @@ ended =
       counted = λ k Z q messages. call-counts k q messages Z;
       wakes = λ k S q messages. call-wakes k q messages S;
       stays = λ k S q messages. call-stays k q messages S;
+      stops = λ k S q messages. call-stops k q messages S;
     }
