@@ -1,8 +1,8 @@
 -- What holds of every element of a list.
-use mathlib.Core.List.{List, [], _∷_, _++_}
+use mathlib.Core.List.{List, [], _∷_, _++_, map}
 use Prim.Native.Nat.{ℕ, zero, suc, _<_}
 use native.Mathlib.Omega.{arith}
-use lib.ListN.{length, take, drop, getD, set}
+use lib.ListN.{length, take, drop, getD, set, replicate}
 use Rattle.codec.specs.Restored.{All}
 
 module _ {A : Type 0} (P : A → Type 0) where
@@ -36,3 +36,18 @@ module _ {A : Type 0} (P : A → Type 0) where
   pub all-each : (xs : List A) (d : A) → ((i : ℕ) → i < length xs → P (getD xs i d)) → All P xs
   all-each [] d h = tt
   all-each (x ∷ xs) d h = (h 0 (omega arith), all-each xs d (λ i l. h (suc i) (omega (arith, l))))
+
+  -- one value in every place
+  pub all-replicate : (n : ℕ) (x : A) → P x → All P (replicate n x)
+  all-replicate zero x p = tt
+  all-replicate (suc n) x p = (p, all-replicate n x p)
+
+  -- what is made from each element of another list
+  pub all-made : {B : Type 0} (g : B → A) (Q : B → Type 0) → ((y : B) → Q y → P (g y)) → (ys : List B) → All Q ys → All P (map g ys)
+  all-made g Q h [] f = tt
+  all-made g Q h (y ∷ ys) f = (h y (f .0), all-made g Q h ys (f .1))
+
+-- what follows for each element
+pub all-imply : {A : Type 0} (P Q : A → Type 0) → ((x : A) → P x → Q x) → (xs : List A) → All P xs → All Q xs
+all-imply P Q h [] f = tt
+all-imply P Q h (x ∷ xs) f = (h x (f .0), all-imply P Q h xs (f .1))

@@ -6,7 +6,7 @@ use Prim.Native.Nat.{ℕ, zero, suc, _+_, _-_, _*_, _/_, _<_}
 use native.Mathlib.Omega.{arith}
 use native.Mathlib.Nat.{mul-suc, not-suc-le-zero}
 use lib.ListN.{length, take, drop, getD, length-append, length-drop, List·getD-append}
-use lib.Dec.{eqb, leb}
+use lib.Dec.{eqb}
 use lib.Seq.{take-all, take-at, drop-at, drop-drop, drop-append-le, getD-drop}
 use Rattle.lines.specs.Lists.{numbersFrom}
 use Rattle.lines.proofs.Laws.Logic.{and-in, all-in}
@@ -22,7 +22,7 @@ use Rattle.codec.specs.State.{threadOf, heldOf, semaphoreOf, queueOf, gr
 use Rattle.codec.specs.Bytes.{threadBytes, heldBytes, flaggedBytes, semaphoreBytes, groupBytes, queueBytes, poolBytes, schedulerBytes, bytesOf}
 use Rattle.codec.specs.Restored.{All, Array, ThreadFits, HeldFits, SemaphoreFits, QueueFits, GroupFits, PoolFits, SchedulerFits, Fits, BlockClaims}
 use Rattle.codec.proofs.Laws.Arrays.{all-append}
-use Rattle.codec.proofs.Laws.Rewritten.{kernel-fitted, kernel-rewritten}
+use Rattle.codec.proofs.Laws.Rewritten.{flagByteb, kernel-fitted, kernel-rewritten}
 
 -- ---- flags and bytes
 -- a flag is read as it was written, and is 0 or 1
@@ -31,7 +31,7 @@ unfolding flagByte
 flag-kept true = refl
 flag-kept false = refl
 
-flag-fits : (f : Bool) → leb (flagByte f) 1 ≡ true
+flag-fits : (f : Bool) → flagByteb (flagByte f) ≡ true
 unfolding flagByte
 flag-fits true = refl
 flag-fits false = refl
@@ -126,7 +126,7 @@ module _ {A : Type 0} {write : A → List ℕ} {read : List ℕ → A} {size : �
         let z : a + j + size * 0 ≡ a + j = omega arith in
         let g = e ∙ append-assoc (write x) (allBytes write xs) rest in
         ap (λ (n : ℕ). flagb b n) z
-        ∙ ap (λ (n : ℕ). leb n 1) (byte-on b a (write x ++ (allBytes write xs ++ rest)) j g ∙ List·getD-append (write x) (allBytes write xs ++ rest) 0 j (omega (arith, h, inside)))
+        ∙ ap flagByteb (byte-on b a (write x ++ (allBytes write xs ++ rest)) j g ∙ List·getD-append (write x) (allBytes write xs ++ rest) 0 j (omega (arith, h, inside)))
         ∙ fits x (f .0)
     flags-fit (x ∷ xs) a (suc i) f e l =
         let h = k .sized x (f .0) in
@@ -386,8 +386,8 @@ module _ (k : Kernel) (f : Fits k) where
       let created = thread-flag threadCreated (omega arith) (λ th g. flag-fits (th .created)) i l in
       let marked = thread-flag threadMarked (omega arith) (λ th g. flag-fits (th .marked)) i l in
       let suspending = thread-flag threadSuspending (omega arith) (λ th g. flag-fits (th .suspending)) i l in
-      let sending = held-flag heldSending (omega arith) (λ h g. ap (λ (n : ℕ). leb n 1) (sending-byte h g) ∙ flag-fits (h .sending)) i l in
-      let front = held-flag heldFront (omega arith) (λ h g. ap (λ (n : ℕ). leb n 1) (front-byte h g) ∙ flag-fits (h .front)) i l in
+      let sending = held-flag heldSending (omega arith) (λ h g. ap flagByteb (sending-byte h g) ∙ flag-fits (h .sending)) i l in
+      let front = held-flag heldFront (omega arith) (λ h g. ap flagByteb (front-byte h g) ∙ flag-fits (h .front)) i l in
       and-in _ _ (and-in _ _ (and-in _ _ (and-in _ _ created marked) suspending) sending) front)
 
   semaphores-flags : semaphoreFlagsb (bytesOf k) ≡ true

@@ -6,7 +6,7 @@ use Prim.Native.Nat.{ℕ, zero, suc, _+_, _*_, _≤_, _<_}
 use native.Mathlib.Omega.{arith}
 use native.Mathlib.Nat.{mul-suc, mul-le-mul-left}
 use lib.ListN.{length, drop, length-drop, take-append-drop, drop-of-length-le}
-use lib.Dec.{eqb, leb}
+use lib.Dec.{eqb}
 use lib.Seq.{take-all, drop-cons, drop-drop, getD-drop, getD-take, length-take-le}
 use borrow.Author.Tests.{leb-true}
 use Rattle.lines.specs.Lists.{numbersFrom}
@@ -19,6 +19,10 @@ use Rattle.codec.specs.State.{threadOf, heldOf, semaphoreOf, queueOf, gr
 use Rattle.codec.specs.Bytes.{threadBytes, heldBytes, flaggedBytes, semaphoreBytes, groupBytes, queueBytes, poolBytes, schedulerBytes, bytesOf}
 use Rattle.codec.specs.Restored.{All, Array, ThreadFits, HeldFits, SemaphoreFits, QueueFits, GroupFits, PoolFits, SchedulerFits, Fits}
 use Rattle.codec.proofs.Laws.Arrays.{all-take, all-drop, all-get}
+
+-- the test of a flag, by its byte
+abbrev pub flagByteb : ℕ → Bool
+flagByteb x = flagb (x ∷ []) 0
 
 -- ---- parts of a block
 -- bytes of a part, and how many it has
@@ -36,7 +40,7 @@ module _ (b : List ℕ) (a n : ℕ) where
   byte-part j l = getD-take n (drop a b) j 0 l ∙ getD-drop a b j 0
 
   flag-part : (j : ℕ) → j < n → flagb b (a + j) ≡ true → flagb (part a n b) j ≡ true
-  flag-part j l e = ap (λ (x : ℕ). leb x 1) (byte-part j l) ∙ e
+  flag-part j l e = ap flagByteb (byte-part j l) ∙ e
 
 byte-at : (b : List ℕ) (i : ℕ) → All Byte b → Byte (byteAt b i)
 byte-at b i f = all-get Byte b i 0 f (omega arith)
@@ -49,7 +53,7 @@ module _ (b : List ℕ) (a : ℕ) where
   -- a flag that is 0 or 1
   then-flag : (rest : List ℕ) → a < length b → flagb b a ≡ true → rest ≡ drop (suc a) b → flagByte (flagAt b a) ∷ rest ≡ drop a b
   unfolding flagByte
-  then-flag rest l f e = ap (λ (x : ℕ). x ∷ rest) (flag-back (byteAt b a) (leb-true (byteAt b a) 1 f)) ∙ then-byte rest l e
+  then-flag rest l f e = ap (λ (x : ℕ). x ∷ rest) (flag-back (byteAt b a) (let h = leb-true (byteAt b a) _ f in omega (arith, h))) ∙ then-byte rest l e
     where
       flag-back : (x : ℕ) → x ≤ 1 → flagByte (eqb x 1) ≡ x
       flag-back zero h = refl
