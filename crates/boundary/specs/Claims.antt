@@ -11,6 +11,7 @@ use Rattle.kernel.specs.Kinds.{Kind}
 use Rattle.kernel.specs.Sound.{soundb}
 use Rattle.codec.specs.Layout.{stateBytes}
 use Rattle.codec.specs.State.{kernelOf}
+use Rattle.codec.specs.Bytes.{bytesOf}
 use Rattle.codec.specs.Restored.{All, Fits}
 use Rattle.apachimo.specs.Library.{startBlock, runRefusal, runBlock, runReplies}
 use Rattle.claims.specs.Lists.{Made, next, after}
@@ -29,6 +30,8 @@ pub record Calls (b : List ℕ) (ms : List Made) : Type 0 where
   pub lent : Lent (blockAfterCalls b ms)
   -- its tables are those after the list of calls
   pub tables : kernelOf (blockAfterCalls b ms) ≡ after (kernelOf b) ms
+  -- and its bytes are theirs
+  pub written : blockAfterCalls b ms ≡ bytesOf (after (kernelOf b) ms)
   -- the replies are those of the general call, each on the tables that the last one handed back
   pub replies : blockReplies b ms ≡ repliesTo (kernelOf b) ms
 
@@ -36,6 +39,7 @@ pub record Calls (b : List ℕ) (ms : List Made) : Type 0 where
 pub record Runs (b tape : List ℕ) (most : ℕ) (out : List ℕ) : Type 0 where
   pub lent : Lent (runBlock b tape most (length out))
   pub tables : kernelOf (runBlock b tape most (length out)) ≡ after (kernelOf b) (madeOf tape most)
+  pub written : runBlock b tape most (length out) ≡ bytesOf (after (kernelOf b) (madeOf tape most))
   pub replies : runReplies b tape most out ≡ repliedList out 0 (repliesTo (kernelOf b) (madeOf tape most))
 
 -- rules 13.3, 13.4: first come, first served, for a user of the library: the claim holds of the tables of the block, and the tables and

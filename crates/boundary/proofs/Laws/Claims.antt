@@ -53,7 +53,6 @@ not-given : {P : Type 0} (n : ℕ) → 1 ≤ n → n ≡ 0 → P
 not-given n h e = absurd (not-suc-le-zero (let y : 1 ≤ 0 = omega (arith, h, e) in y))
 
 -- ---- blocks that are taken
-
 module _ (b : List ℕ) (L : Lent b) where
   lent-sized : length b ≡ stateBytes
   lent-sized = block-sized b (L .taken)
@@ -67,6 +66,10 @@ module _ (b : List ℕ) (L : Lent b) where
 
   lent-fits : Fits (kernelOf b)
   lent-fits = blockClaims .fitted b lent-sized (L .bytes)
+
+  -- a block of these tables has their bytes
+  lent-written : (k : Kernel) → kernelOf b ≡ k → b ≡ bytesOf k
+  lent-written k e = sym (blockClaims .rewritten b lent-sized (L .bytes) lent-flags) ∙ ap bytesOf e
 
 -- tables that fit, written to a block
 written-lent : (k : Kernel) → Fits k → Lent (bytesOf k)
@@ -121,13 +124,15 @@ module _ (b : List ℕ) (L : Lent b) (m : Made) where
 -- ---- lists of calls
 calls : (b : List ℕ) → Lent b → (ms : List Made) → All Passed ms → Calls b ms
 unfolding blockAfterCalls blockReplies repliesTo after
-calls b L [] f = record { lent = L; tables = refl; replies = refl }
+calls b L [] f = record { lent = L; tables = refl; written = lent-written b L (kernelOf b) refl; replies = refl }
 calls b L (m ∷ ms) f =
     let h = call-holds b L m (f .0) in
     let rest = calls (blockAfterCall b m) (h .0) ms (f .1) in
+    let e = rest .tables ∙ ap (λ (k : Kernel). after k ms) (h .1) in
     record {
       lent = rest .lent;
-      tables = rest .tables ∙ ap (λ (k : Kernel). after k ms) (h .1);
+      tables = e;
+      written = lent-written (blockAfterCalls (blockAfterCall b m) ms) (rest .lent) (after (next (kernelOf b) m) ms) e;
       replies = λ i. call-reply b L m i ∷ (rest .replies ∙ ap (λ (k : Kernel). repliesTo k ms) (h .1)) i;
     }
 
@@ -178,6 +183,7 @@ runs b L tape f most out r =
     record {
       lent = h .0;
       tables = h .1;
+      written = lent-written (runBlock b tape most (length out)) (h .0) (after (kernelOf b) (madeOf tape most)) (h .1);
       replies = chosen (eqb (runRefusal b tape most (length out)) 0) (ranReplies (kernelOf b) tape most out) _ (eq-eqb (runRefusal b tape most (length out)) 0 r) ∙ ran-replies (kernelOf b) tape most (accepted b L tape f most (length out) r) out;
     }
 

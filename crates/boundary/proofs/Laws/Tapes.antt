@@ -4,7 +4,7 @@ use mathlib.Core.List.{List, [], _∷_, map}
 use mathlib.Core.Bool.{Bool, false}
 use Prim.Native.Nat.{ℕ, _+_}
 use native.Mathlib.Omega.{arith}
-use lib.ListN.{take, getD}
+use lib.ListN.{take}
 use lib.Dec.{ltb}
 use Rattle.lines.specs.Logic.{if_then_else_}
 use Rattle.lines.specs.Lists.{numbersFrom}
@@ -17,7 +17,8 @@ use Rattle.kernel.specs.declared.Kernel.{Kernel}
 use Rattle.kernel.specs.Runs.{afterRecord, afterRecords, ran, replyTo, repliedAll, ranReplies}
 use Rattle.kernel.specs.declared.run.Ran.{Ran}
 use Rattle.codec.specs.Restored.{All}
-use Rattle.codec.proofs.Laws.Arrays.{all-get, all-take, all-made}
+use Rattle.codec.proofs.Laws.Arrays.{all-take, all-made}
+use Rattle.codec.proofs.Laws.Rewritten.{byte-at, word-fits}
 use Rattle.claims.specs.Lists.{Made, answer, next, after}
 use Rattle.boundary.specs.Calls.{Passed, repliesTo, madeOf, repliedList}
 
@@ -33,13 +34,7 @@ anything (x ∷ xs) = (tt, anything xs)
 module _ (tape : List ℕ) (f : All Byte tape) where
   word-at : (at : ℕ) → Word (wordAt tape at)
   unfolding wordAt
-  word-at at =
-      let byte : (i : ℕ) → Byte (getD tape i 0) = λ i. all-get Byte tape i 0 f (omega arith) in
-      let h0 = byte at in
-      let h1 = byte (at + 1) in
-      let h2 = byte (at + 2) in
-      let h3 = byte (at + 3) in
-      omega (arith, h0, h1, h2, h3)
+  word-at at = word-fits _ _ _ _ (byte-at tape at f) (byte-at tape (at + 1) f) (byte-at tape (at + 2) f) (byte-at tape (at + 3) f)
 
   message-words : All Word (messagesOf tape)
   unfolding messagesOf messageAt

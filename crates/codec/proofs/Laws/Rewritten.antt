@@ -11,7 +11,7 @@ use lib.Seq.{take-all, drop-cons, drop-drop, getD-drop, getD-take, length-take-l
 use borrow.Author.Tests.{leb-true}
 use Rattle.lines.specs.Lists.{numbersFrom}
 use Rattle.lines.proofs.Laws.Logic.{and-left, and-right, all-at}
-use Rattle.words.specs.Words.{Byte, Half, Word, wordSize, halfSize, wordBytes, halfBytes}
+use Rattle.words.specs.Words.{Byte, Half, Word, wordSize, halfSize, word, wordBytes, halfBytes}
 use Rattle.words.proofs.Laws.Words as Words
 use Rattle.codec.specs.Blocks.{part, byteAt, flagAt, wordOf, halfOf, tableOf, flagByte, allBytes}
 use Rattle.codec.specs.Layout.{clockAt, flaggedCreated, flaggedSize, flaggedWord, groupCount, groupsAt, heldAt, heldFront, heldOption, heldRequest, heldSending, heldSize, heldStatus, heldWords, listCount, poolBlock, poolCount, poolCreated, poolFree, poolList, poolSize, poolTotal, poolsAt, queueCount, queueCreated, queueSize, queueStorage, queueStore, queueStored, queueWords, queuesAt, schedulerAt, schedulerIds, schedulerLen, schedulerRunning, schedulerSize, schedulerThreads, semaphoreCount, semaphoresAt, stateBytes, storeCount, storeSize, threadCount, threadCreated, threadMarked, threadObject, threadPriority, threadSize, threadState, threadSuspending, threadThreshold, threadTicks, threadsAt, wordCount, wordsSize}
@@ -42,7 +42,7 @@ module _ (b : List ℕ) (a n : ℕ) where
   flag-part : (j : ℕ) → j < n → flagb b (a + j) ≡ true → flagb (part a n b) j ≡ true
   flag-part j l e = ap flagByteb (byte-part j l) ∙ e
 
-byte-at : (b : List ℕ) (i : ℕ) → All Byte b → Byte (byteAt b i)
+pub byte-at : (b : List ℕ) (i : ℕ) → All Byte b → Byte (byteAt b i)
 byte-at b i f = all-get Byte b i 0 f (omega arith)
 
 -- ---- a block, from byte a on, put together from what stands there and what stands behind that
@@ -128,11 +128,15 @@ module _ {A : Type 0} {write : A → List ℕ} {read : List ℕ → A} {size : �
       }
 
 -- ---- words and halves
+-- what four bytes spell is a word
+pub word-fits : (b0 b1 b2 b3 : ℕ) → Byte b0 → Byte b1 → Byte b2 → Byte b3 → Word (word b0 b1 b2 b3)
+word-fits b0 b1 b2 b3 h0 h1 h2 h3 = omega (arith, h0, h1, h2, h3)
+
 words : Reread wordBytes wordOf wordSize Word None
 unfolding wordOf
 words =
     record {
-      fitted = λ b h f. let h0 = byte-at b 0 f in let h1 = byte-at b 1 f in let h2 = byte-at b 2 f in let h3 = byte-at b 3 f in omega (arith, h0, h1, h2, h3);
+      fitted = λ b h f. word-fits (byteAt b 0) (byteAt b 1) (byteAt b 2) (byteAt b 3) (byte-at b 0 f) (byte-at b 1 f) (byte-at b 2 f) (byte-at b 3 f);
       same = λ b h f g.
           Words.claims .wordSplit (byteAt b 0) (byteAt b 1) (byteAt b 2) (byteAt b 3) (byte-at b 0 f) (byte-at b 1 f) (byte-at b 2 f) (byte-at b 3 f)
           ∙ then-byte b 0 _ (omega (arith, h)) (then-byte b 1 _ (omega (arith, h)) (then-byte b 2 _ (omega (arith, h)) (then-byte b 3 _ (omega (arith, h)) (nothing b 4 h))));
