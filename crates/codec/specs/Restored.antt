@@ -106,3 +106,7 @@ pub record BlockClaims : Type 0 where
   pub flagged : (k : Kernel) → Fits k → flagsFitb (bytesOf k) ≡ true
   -- rule 14.2: the tables that are read are those that were written
   pub restored : (k : Kernel) → Fits k → kernelOf (bytesOf k) ≡ k
+  -- rule 14.2: the tables of any block fit one
+  pub fitted : (b : List ℕ) → length b ≡ stateBytes → All Byte b → Fits (kernelOf b)
+  -- rule 14.2: the bytes that are written are those that were read, where every flag is 0 or 1
+  pub rewritten : (b : List ℕ) → length b ≡ stateBytes → All Byte b → flagsFitb b ≡ true → bytesOf (kernelOf b) ≡ b

@@ -6,7 +6,7 @@ use Prim.Native.Nat.{ℕ, zero, suc, _+_, _-_, _*_, _/_, _<_}
 use native.Mathlib.Omega.{arith}
 use native.Mathlib.Nat.{mul-suc, not-suc-le-zero}
 use lib.ListN.{length, take, drop, getD, length-append, length-drop, List·getD-append}
-use lib.Dec.{eqb, leb}
+use lib.Dec.{eqb}
 use lib.Seq.{take-all, take-at, drop-at, drop-drop, drop-append-le, getD-drop}
 use Rattle.lines.specs.Lists.{numbersFrom}
 use Rattle.lines.proofs.Laws.Logic.{and-in, all-in}
@@ -21,6 +21,8 @@ use Rattle.codec.specs.Layout.{clockAt, flaggedCreated, flaggedSize, gro
 use Rattle.codec.specs.State.{threadOf, heldOf, semaphoreOf, queueOf, groupOf, poolOf, schedulerOf, kernelOf, flagb, threadFlagsb, semaphoreFlagsb, queueFlagsb, poolFlagsb, flagsFitb}
 use Rattle.codec.specs.Bytes.{threadBytes, heldBytes, flaggedBytes, semaphoreBytes, groupBytes, queueBytes, poolBytes, schedulerBytes, bytesOf}
 use Rattle.codec.specs.Restored.{All, Array, ThreadFits, HeldFits, SemaphoreFits, QueueFits, GroupFits, PoolFits, SchedulerFits, Fits, BlockClaims}
+use Rattle.codec.proofs.Laws.Arrays.{all-append}
+use Rattle.codec.proofs.Laws.Rewritten.{flagByteb, kernel-fitted, kernel-rewritten}
 
 -- ---- flags and bytes
 -- a flag is read as it was written, and is 0 or 1
@@ -29,7 +31,7 @@ unfolding flagByte
 flag-kept true = refl
 flag-kept false = refl
 
-flag-fits : (f : Bool) → leb (flagByte f) 1 ≡ true
+flag-fits : (f : Bool) → flagByteb (flagByte f) ≡ true
 unfolding flagByte
 flag-fits true = refl
 flag-fits false = refl
@@ -38,10 +40,6 @@ flag-byte : (f : Bool) → Byte (flagByte f)
 unfolding flagByte
 flag-byte true = omega arith
 flag-byte false = omega arith
-
-bytes-append : (xs ys : List ℕ) → All Byte xs → All Byte ys → All Byte (xs ++ ys)
-bytes-append [] ys f g = g
-bytes-append (x ∷ xs) ys f g = (f .0, bytes-append xs ys (f .1) g)
 
 -- ---- a block b of which is known what lies from byte a on
 module _ (b : List ℕ) (a : ℕ) where
@@ -97,7 +95,7 @@ module _ {A : Type 0} {write : A → List ℕ} {read : List ℕ → A} {size : �
   bytes-all : (xs : List A) → All P xs → All Byte (allBytes write xs)
   unfolding allBytes
   bytes-all [] f = tt
-  bytes-all (x ∷ xs) f = bytes-append (write x) (allBytes write xs) (k .bytes x (f .0)) (bytes-all xs (f .1))
+  bytes-all (x ∷ xs) f = all-append Byte (write x) (allBytes write xs) (k .bytes x (f .0)) (bytes-all xs (f .1))
 
   records-kept : (b : List ℕ) (j : ℕ) (xs : List A) → All P xs → drop (size * j) b ≡ allBytes write xs → map (λ i. read (part (size * i) size b)) (numbersFrom j (length xs)) ≡ xs
   unfolding allBytes numbersFrom
@@ -128,7 +126,7 @@ module _ {A : Type 0} {write : A → List ℕ} {read : List ℕ → A} {size : �
         let z : a + j + size * 0 ≡ a + j = omega arith in
         let g = e ∙ append-assoc (write x) (allBytes write xs) rest in
         ap (λ (n : ℕ). flagb b n) z
-        ∙ ap (λ (n : ℕ). leb n 1) (byte-on b a (write x ++ (allBytes write xs ++ rest)) j g ∙ List·getD-append (write x) (allBytes write xs ++ rest) 0 j (omega (arith, h, inside)))
+        ∙ ap flagByteb (byte-on b a (write x ++ (allBytes write xs ++ rest)) j g ∙ List·getD-append (write x) (allBytes write xs ++ rest) 0 j (omega (arith, h, inside)))
         ∙ fits x (f .0)
     flags-fit (x ∷ xs) a (suc i) f e l =
         let h = k .sized x (f .0) in
@@ -211,7 +209,7 @@ pool =
           let t = take-all listCount (p .list) (omega (arith, s)) in
           λ i. record { created = flag-kept (p .created) i; block = half-spelled (p .block) (f .block) i; total = word .kept (p .total) (f .total) i; free = p .free; list = t i };
       bytes = λ p f.
-          (flag-byte (p .created), (low-byte (p .block), (low-byte (p .block / 0x100), bytes-append (wordBytes (p .total)) (p .free ∷ p .list) (word .bytes (p .total) (f .total)) (f .free, f .list .each))));
+          (flag-byte (p .created), (low-byte (p .block), (low-byte (p .block / 0x100), all-append Byte (wordBytes (p .total)) (p .free ∷ p .list) (word .bytes (p .total) (f .total)) (f .free, f .list .each))));
     }
 
 -- what lies behind the held words
@@ -257,9 +255,9 @@ held =
       sized = held-size;
       kept = held-kept;
       bytes = λ h f.
-          bytes-append (wordBytes (h .status)) _ (word .bytes (h .status) (f .status))
-          (bytes-append (allBytes wordBytes (h .words)) _ (table word wordCount .bytes (h .words) (f .words))
-          (flag-byte (h .sending), (flag-byte (h .front), bytes-append (wordBytes (h .request)) _ (word .bytes (h .request) (f .request)) (f .option, tt))));
+          all-append Byte (wordBytes (h .status)) _ (word .bytes (h .status) (f .status))
+          (all-append Byte (allBytes wordBytes (h .words)) _ (table word wordCount .bytes (h .words) (f .words))
+          (flag-byte (h .sending), (flag-byte (h .front), all-append Byte (wordBytes (h .request)) _ (word .bytes (h .request) (f .request)) (f .option, tt))));
     }
 
 -- ---- the scheduler
@@ -295,7 +293,7 @@ scheduler =
     record {
       sized = λ s f. length-from (schedulerBytes s) schedulerThreads (allBytes threadBytes (s .threads)) (threadSize * threadCount) (threads-from s f) (table thread threadCount .sized (s .threads) (f .threads)) (omega arith);
       kept = scheduler-kept;
-      bytes = λ s f. (f .running, bytes-append (s .order .ids) _ (f .ids .each) (f .len, table thread threadCount .bytes (s .threads) (f .threads)));
+      bytes = λ s f. (f .running, all-append Byte (s .order .ids) _ (f .ids .each) (f .len, table thread threadCount .bytes (s .threads) (f .threads)));
     }
 
 -- ---- the kernel: what lies in its block from each table on
@@ -357,12 +355,12 @@ module _ (k : Kernel) (f : Fits k) where
   kernel-bytes : All Byte (bytesOf k)
   unfolding bytesOf
   kernel-bytes =
-      bytes-append (schedulerBytes (k .scheduler)) _ (scheduler .bytes (k .scheduler) (f .scheduler))
-      (bytes-append (allBytes heldBytes (k .held)) _ (table held threadCount .bytes (k .held) (f .held))
-      (bytes-append (allBytes semaphoreBytes (k .semaphores)) _ (table semaphore semaphoreCount .bytes (k .semaphores) (f .semaphores))
-      (bytes-append (allBytes queueBytes (k .queues)) _ (table queue queueCount .bytes (k .queues) (f .queues))
-      (bytes-append (allBytes groupBytes (k .groups)) _ (table group groupCount .bytes (k .groups) (f .groups))
-      (bytes-append (allBytes poolBytes (k .pools)) _ (table pool poolCount .bytes (k .pools) (f .pools)) (word .bytes (k .clock) (f .clock)))))))
+      all-append Byte (schedulerBytes (k .scheduler)) _ (scheduler .bytes (k .scheduler) (f .scheduler))
+      (all-append Byte (allBytes heldBytes (k .held)) _ (table held threadCount .bytes (k .held) (f .held))
+      (all-append Byte (allBytes semaphoreBytes (k .semaphores)) _ (table semaphore semaphoreCount .bytes (k .semaphores) (f .semaphores))
+      (all-append Byte (allBytes queueBytes (k .queues)) _ (table queue queueCount .bytes (k .queues) (f .queues))
+      (all-append Byte (allBytes groupBytes (k .groups)) _ (table group groupCount .bytes (k .groups) (f .groups))
+      (all-append Byte (allBytes poolBytes (k .pools)) _ (table pool poolCount .bytes (k .pools) (f .pools)) (word .bytes (k .clock) (f .clock)))))))
 
   -- ---- its flags
   -- the threads lie at the end of the scheduler
@@ -388,8 +386,8 @@ module _ (k : Kernel) (f : Fits k) where
       let created = thread-flag threadCreated (omega arith) (λ th g. flag-fits (th .created)) i l in
       let marked = thread-flag threadMarked (omega arith) (λ th g. flag-fits (th .marked)) i l in
       let suspending = thread-flag threadSuspending (omega arith) (λ th g. flag-fits (th .suspending)) i l in
-      let sending = held-flag heldSending (omega arith) (λ h g. ap (λ (n : ℕ). leb n 1) (sending-byte h g) ∙ flag-fits (h .sending)) i l in
-      let front = held-flag heldFront (omega arith) (λ h g. ap (λ (n : ℕ). leb n 1) (front-byte h g) ∙ flag-fits (h .front)) i l in
+      let sending = held-flag heldSending (omega arith) (λ h g. ap flagByteb (sending-byte h g) ∙ flag-fits (h .sending)) i l in
+      let front = held-flag heldFront (omega arith) (λ h g. ap flagByteb (front-byte h g) ∙ flag-fits (h .front)) i l in
       and-in _ _ (and-in _ _ (and-in _ _ (and-in _ _ created marked) suspending) sending) front)
 
   semaphores-flags : semaphoreFlagsb (bytesOf k) ≡ true
@@ -414,4 +412,4 @@ module _ (k : Kernel) (f : Fits k) where
   kernel-flags = and-in _ _ (and-in _ _ (and-in _ _ threads-flags semaphores-flags) queues-flags) pools-flags
 
 pub blockClaims : BlockClaims
-blockClaims = record { sized = kernel-size; bytes = kernel-bytes; flagged = kernel-flags; restored = kernel-kept }
+blockClaims = record { sized = kernel-size; bytes = kernel-bytes; flagged = kernel-flags; restored = kernel-kept; fitted = kernel-fitted; rewritten = kernel-rewritten }

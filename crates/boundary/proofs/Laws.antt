@@ -1,0 +1,5 @@
+pub mod Worded
+pub mod Effects
+pub mod Fits
+pub mod Tapes
+pub mod Claims
