@@ -64,6 +64,10 @@ unfoldable pub groupsText : List Group → Scheduler → List ℕ
 groupsText all s = eachText (λ n g. groupText n g (lineAt s (waitersAt onFlags n))) 0 all
 
 -- ---- pools
+-- the free blocks in the order in which they are given
+unfoldable pub freeText : Pool → List ℕ
+freeText p = separated (code ",") (freeBlocks p)
+
 -- a pool's number, the bytes of a block and of the pool, and how many blocks there are
 unfoldable pub poolSizesText : ℕ → Pool → List ℕ
 poolSizesText n p =
@@ -72,11 +76,11 @@ poolSizesText n p =
     ++ fieldText (ascii " total=") (p .total)
     ++ fieldText (ascii " blocks=") (blocksOf p)
 
--- a pool: its sizes, its free blocks in the order in which they are given, and its waiters
+-- a pool: its sizes, its free blocks and its waiters
 unfoldable pub poolText : ℕ → Pool → List ℕ → List ℕ
 poolText n p waiters =
     if p .created
-    then poolSizesText n p ++ ascii " free=[" ++ separated (code ",") (freeBlocks p) ++ ascii "] " ++ lineText waiters
+    then poolSizesText n p ++ ascii " free=[" ++ freeText p ++ ascii "] " ++ lineText waiters
     else []
 
 -- all pools by number

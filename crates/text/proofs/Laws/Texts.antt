@@ -1,6 +1,7 @@
 -- Laws of the first items of a list, and of their texts.
 use mathlib.Core.Path.{_≡_, refl, sym, ap, subst, _∙_}
 use mathlib.Core.List.{List, [], _∷_, _++_, append-nil, append-assoc}
+use mathlib.Core.Bool.{Bool, true}
 use Prim.Native.Nat.{ℕ, zero, suc, _+_, _<_, min}
 use native.Mathlib.Omega.{arith}
 use native.Mathlib.Numerals.{add-one}
@@ -8,6 +9,7 @@ use lib.ListN.{length, take, getD}
 use lib.Seq.{take-suc, take-all, length-take-le}
 use lib.Dec.{ltb}
 use borrow.Author.Tests.{ltb-true, ltb-false}
+use Rattle.lines.specs.Logic.{if_then_else_}
 use Rattle.lines.proofs.Laws.Logic.{by-test}
 use Rattle.output.specs.Texts.{Put}
 use Rattle.output.proofs.Laws.Texts.{put-append}
@@ -47,3 +49,7 @@ each-more f xs i d h =
 pub put-more : {A : Type 0} (f : ℕ → A → List ℕ) (xs : List A) (d : A) {a b c : List ℕ} {at i r s : ℕ} → i < length xs
     → Put a at (eachText f 0 (take i xs)) b r → Put b r (f i (getD xs i d)) c s → Put a at (eachText f 0 (take (i + 1) xs)) c s
 put-more f xs d {a} {b} {c} {at} {i} {r} {s} h p q = rw (each-more f xs i d h) (put-append p q)
+
+-- ---- a text that is put only where a test holds
+pub put-if : {a c xs : List ℕ} {at r : ℕ} (b : Bool) → b ≡ true → Put a at xs c r → Put a at (if b then xs else []) c r
+put-if {a} {c} {xs} {at} {r} b e p = subst (λ (v : Bool). Put a at (if v then xs else []) c r) (sym e) p
