@@ -1,9 +1,13 @@
 // Runs a call tape from nothing created, and prints the tables before the first call, and for each call the call itself, its result and the
 // tables after it.
+ghost use mathlib.Core.Path.{_≡_};
+ghost use Rattle.kernel.specs.General.{call};
+ghost use Rattle.tape.specs.Tapes.{recordsOf};
+ghost use Rattle.output.specs.Texts.{Put};
+ghost use Rattle.inspect.specs.Inspect.{argumentsText, callText, answerText, resultText, callsText, inspectText};
 use calls::call::Request;
 use kernel::Answer;
 use kernel::Kernel;
-use numbers::MESSAGE_WORDS;
 use numbers::ThreadId;
 use output::flush;
 use output::put_byte;
@@ -16,18 +20,24 @@ use text::put_words;
 mod tables;
 
 // One call of the tape. The message words are those that a send takes its message from.
-fn carried_out(k: Kernel, r: Request, words: &[u32]) -> Answer {
+fn carried_out(k: Kernel, r: Request, words: &[u32]) -> Answer
+    ensures { λ a. ⌜ a ≡ call k r (now (words .entry)) ⌝ }
+{
     k.call(r, words)
 }
 
-fn put_arguments(buf: &mut [u8], at: usize, r: Request) -> usize {
+fn put_arguments(buf: &mut [u8], at: usize, r: Request) -> usize
+    ensures { λ to. ⌜ Put (now (buf .entry)) at (argumentsText r) (now (buf .exit)) to ⌝ }
+{
     let at = put_field(buf, at, b" ", r.a);
     let at = put_field(buf, at, b" ", r.b);
     let at = put_field(buf, at, b" ", r.c);
     put_field(buf, at, b" ", r.d)
 }
 
-fn put_call(buf: &mut [u8], at: usize, i: u32, r: Request) -> usize {
+fn put_call(buf: &mut [u8], at: usize, i: u32, r: Request) -> usize
+    ensures { λ to. ⌜ Put (now (buf .entry)) at (callText i r) (now (buf .exit)) to ⌝ }
+{
     let at = put_field(buf, at, b"call ", i);
     let at = put_field(buf, at, b" ", r.number);
     let at = put_field(buf, at, b" ", r.caller);
@@ -35,7 +45,9 @@ fn put_call(buf: &mut [u8], at: usize, i: u32, r: Request) -> usize {
     put_byte(buf, at, b'\n')
 }
 
-fn put_answer(buf: &mut [u8], at: usize, status: u32, next: ThreadId, ended: u32) -> usize {
+fn put_answer(buf: &mut [u8], at: usize, status: u32, next: ThreadId, ended: u32) -> usize
+    ensures { λ r. ⌜ Put (now (buf .entry)) at (answerText status (next .0) ended) (now (buf .exit)) r ⌝ }
+{
     let at = put_field(buf, at, b"result ", status);
     let at = put_byte(buf, at, b' ');
     let at = put_thread(buf, at, next);
@@ -48,16 +60,20 @@ fn put_result(
     status: u32,
     next: ThreadId,
     ended: u32,
-    words: &[u32; MESSAGE_WORDS],
-) -> usize {
+    words: &[u32],
+) -> usize
+    ensures { λ r. ⌜ Put (now (buf .entry)) at (resultText status (next .0) ended (now (words .entry))) (now (buf .exit)) r ⌝ }
+{
     let at = put_answer(buf, at, status, next, ended);
     let at = put_byte(buf, at, b' ');
     let at = put_words(buf, at, words, b' ');
     put_byte(buf, at, b'\n')
 }
 
-// Every call of a tape that is not refused.
-fn put_calls(buf: &mut [u8], at: usize, bytes: &[u8], words: &[u32]) -> usize {
+// Every call of a tape that is not refused, on the message words that are lent.
+fn put_calls(buf: &mut [u8], at: usize, bytes: &[u8], words: &[u32]) -> usize
+    ensures { λ r. ⌜ Put (now (buf .entry)) at (callsText (now (words .entry)) (recordsOf (now (bytes .entry)))) (now (buf .exit)) r ⌝ }
+{
     let n = tape::count(bytes);
     let mut k = Kernel::start();
     let mut to = put_tables(buf, at, k);
@@ -75,7 +91,10 @@ fn put_calls(buf: &mut [u8], at: usize, bytes: &[u8], words: &[u32]) -> usize {
     to
 }
 
-fn put_run(buf: &mut [u8], bytes: &[u8]) -> usize {
+// What is printed of a tape.
+fn put_run(buf: &mut [u8], bytes: &[u8]) -> usize
+    ensures { λ r. ⌜ Put (now (buf .entry)) 0 (inspectText (now (bytes .entry))) (now (buf .exit)) r ⌝ }
+{
     if tape::is_refused(bytes) {
         return put_refused(buf, 0);
     }

@@ -1,4 +1,6 @@
 // The tables as text: what is created, by number, and the orders in which somebody stands.
+ghost use Rattle.output.specs.Texts.{Put};
+ghost use Rattle.inspect.specs.Tables.{startText, schedulerText, tablesText};
 use calls::held::Held;
 use kernel::Kernel;
 use numbers::THREADS;
@@ -16,7 +18,9 @@ use text::thread_table::put_orders;
 use text::thread_table::put_threads;
 
 // The clock and who runs.
-fn put_start(buf: &mut [u8], at: usize, clock: u32, running: ThreadId) -> usize {
+fn put_start(buf: &mut [u8], at: usize, clock: u32, running: ThreadId) -> usize
+    ensures { λ r. ⌜ Put (now (buf .entry)) at (startText clock (running .0)) (now (buf .exit)) r ⌝ }
+{
     let at = put_field(buf, at, b"clock ", clock);
     let at = put_text(buf, at, b"\nrunning ");
     let at = put_thread(buf, at, running);
@@ -30,14 +34,18 @@ fn put_scheduler(
     clock: u32,
     s: Scheduler,
     held: [Held; THREADS],
-) -> usize {
+) -> usize
+    ensures { λ r. ⌜ Put (now (buf .entry)) at (schedulerText clock s held) (now (buf .exit)) r ⌝ }
+{
     let threads = s.threads;
     let at = put_start(buf, at, clock, s.running);
     let at = put_threads(buf, at, threads, held);
     put_orders(buf, at, s)
 }
 
-pub fn put_tables(buf: &mut [u8], at: usize, k: Kernel) -> usize {
+pub fn put_tables(buf: &mut [u8], at: usize, k: Kernel) -> usize
+    ensures { λ r. ⌜ Put (now (buf .entry)) at (tablesText k) (now (buf .exit)) r ⌝ }
+{
     let s = k.scheduler;
     let held = k.held;
     let semaphores = k.semaphores;

@@ -4,6 +4,8 @@ use mathlib.Core.Path.{_≡_}
 use mathlib.Core.Bool.{cond}
 use mathlib.Core.List.{List, [], _∷_, _++_}
 use Prim.Native.Nat.{ℕ, zero, suc, _+_, _/_, _%_, _≤_, min}
+use Prim.Native.Char.{code}
+use Prim.Native.String.{String, [] as noText, _∷_ as _then_}
 use lib.ListN.{length, take, drop, set}
 use lib.Dec.{ltb}
 
@@ -31,8 +33,10 @@ pub record Put (before : List ℕ) (at : ℕ) (text after : List ℕ) (r : ℕ) 
   pub bytes : after ≡ textIn before at text
   pub within : r ≤ length after
 
--- A text that finds room stands behind the text before it, and every other byte is as before. Proved as `texts` of proofs/Laws/Texts.antt.
+-- A text that goes in behind another is one text with it. A text that finds room stands behind the text before it, and every other byte is
+-- as before. Proved as `texts` of proofs/Laws/Texts.antt.
 pub record TextClaims : Type 0 where
+  pub append : {a b c : List ℕ} {at r s : ℕ} {xs ys : List ℕ} → Put a at xs b r → Put b r ys c s → Put a at (xs ++ ys) c s
   pub roomEnd : (size at : ℕ) (bs : List ℕ) → at + length bs ≤ size → textEnd size at bs ≡ at + length bs
   pub roomBytes : (buf : List ℕ) (at : ℕ) (bs : List ℕ) → at + length bs ≤ length buf
       → textIn buf at bs ≡ take at buf ++ bs ++ drop (at + length bs) buf
@@ -45,3 +49,8 @@ decimalIn (suc k) n = cond (ltb n 10) ((48 + n) ∷ []) (decimalIn k (n / 10) ++
 -- rule 11.6: the ASCII digits of a number of 64 bits, which has at most 20
 unfoldable pub decimalOf : ℕ → List ℕ
 decimalOf n = decimalIn 20 n
+
+-- rule 11.6: the bytes of a text in ASCII
+abbrev pub ascii : String → List ℕ
+ascii noText = []
+ascii (c then s) = code c ∷ ascii s

@@ -40,6 +40,13 @@ pub fn put_byte(buf: &mut [u8], at: usize, b: u8) -> usize
     }
 }
 
+// Puts nothing. A position past the buffer counts as a full buffer, as everywhere.
+pub fn put_nothing(buf: &mut [u8], at: usize) -> usize
+    ensures { λ r. ⌜ Put (now (buf .entry)) at [] (now (buf .exit)) r ⌝ }
+{
+    least(at, buf.len())
+}
+
 // Puts a text into the buffer, which is written out each time that it is full.
 pub fn put_text(buf: &mut [u8], at: usize, text: &[u8]) -> usize
     ensures { λ r. ⌜ Put (now (buf .entry)) at (now (text .entry)) (now (buf .exit)) r ⌝ }

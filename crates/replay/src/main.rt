@@ -1,4 +1,9 @@
 // Runs a call tape from nothing created, and prints for each call its status, the next thread and how many waits it ended.
+ghost use mathlib.Core.Path.{_≡_};
+ghost use Rattle.kernel.specs.General.{call};
+ghost use Rattle.tape.specs.Tapes.{recordsOf};
+ghost use Rattle.output.specs.Texts.{Put};
+ghost use Rattle.replay.specs.Replay.{recordText, countText, callsText, replayText};
 use calls::call::Request;
 use kernel::Answer;
 use kernel::Kernel;
@@ -11,11 +16,15 @@ use text::put_refused;
 use text::put_thread;
 
 // One call of the tape. The message words are those that a send takes its message from.
-fn carried_out(k: Kernel, r: Request, words: &[u32]) -> Answer {
+fn carried_out(k: Kernel, r: Request, words: &[u32]) -> Answer
+    ensures { λ a. ⌜ a ≡ call k r (now (words .entry)) ⌝ }
+{
     k.call(r, words)
 }
 
-fn put_answer(buf: &mut [u8], at: usize, status: u32, next: ThreadId, ended: u32) -> usize {
+fn put_answer(buf: &mut [u8], at: usize, status: u32, next: ThreadId, ended: u32) -> usize
+    ensures { λ r. ⌜ Put (now (buf .entry)) at (recordText status (next .0) ended) (now (buf .exit)) r ⌝ }
+{
     let at = put_decimal(buf, at, status as u64);
     let at = put_byte(buf, at, b' ');
     let at = put_thread(buf, at, next);
@@ -23,13 +32,17 @@ fn put_answer(buf: &mut [u8], at: usize, status: u32, next: ThreadId, ended: u32
     put_byte(buf, at, b'\n')
 }
 
-fn put_count(buf: &mut [u8], at: usize, label: &[u8], n: u32) -> usize {
+fn put_count(buf: &mut [u8], at: usize, label: &[u8], n: u32) -> usize
+    ensures { λ r. ⌜ Put (now (buf .entry)) at (countText (now (label .entry)) n) (now (buf .exit)) r ⌝ }
+{
     let at = put_field(buf, at, label, n);
     put_byte(buf, at, b'\n')
 }
 
-// Every call of a tape that is not refused.
-fn put_calls(buf: &mut [u8], at: usize, bytes: &[u8], words: &[u32]) -> usize {
+// Every call of a tape that is not refused, on the message words that are lent.
+fn put_calls(buf: &mut [u8], at: usize, bytes: &[u8], words: &[u32]) -> usize
+    ensures { λ r. ⌜ Put (now (buf .entry)) at (callsText (now (words .entry)) (recordsOf (now (bytes .entry)))) (now (buf .exit)) r ⌝ }
+{
     let n = tape::count(bytes);
     let mut k = Kernel::start();
     let mut to = put_count(buf, at, b"calls ", n);
@@ -43,7 +56,10 @@ fn put_calls(buf: &mut [u8], at: usize, bytes: &[u8], words: &[u32]) -> usize {
     put_count(buf, to, b"done ", i)
 }
 
-fn put_run(buf: &mut [u8], bytes: &[u8]) -> usize {
+// What is printed of a tape.
+fn put_run(buf: &mut [u8], bytes: &[u8]) -> usize
+    ensures { λ r. ⌜ Put (now (buf .entry)) 0 (replayText (now (bytes .entry))) (now (buf .exit)) r ⌝ }
+{
     if tape::is_refused(bytes) {
         return put_refused(buf, 0);
     }

@@ -1,4 +1,9 @@
 // Threads and the orders of the ready ones as text.
+ghost use mathlib.Core.Path.{_≡_};
+ghost use Rattle.lines.specs.Logic.{oneIf};
+ghost use Rattle.lines.specs.Lines.{members};
+ghost use Rattle.output.specs.Texts.{Put};
+ghost use Rattle.text.specs.Threads.{waitText, levelsText, marksText, requestText, heldText, recordText, threadsText, orderText, ordersText};
 use super::put_field;
 use super::put_line;
 use super::put_words;
@@ -7,20 +12,23 @@ use lines::Line;
 use numbers::PRIORITIES;
 use numbers::THREADS;
 use output::put_byte;
+use output::put_nothing;
 use output::put_text;
 use scheduler::Scheduler;
 use scheduler::thread::Place;
 use scheduler::thread::Thread;
+use waiting::ticks::FOREVER;
 
-// The ticks of a wait without end.
-const FOREVER: u32 = 0xFFFF_FFFF;
-
-fn bit(b: bool) -> u32 {
+fn bit(b: bool) -> u32
+    ensures { λ r. ⌜ r ≡ oneIf b ⌝ }
+{
     if b { 1 } else { 0 }
 }
 
 // The kind of a wait and the ticks left of a timed one.
-fn put_wait(buf: &mut [u8], at: usize, ticks: u32) -> usize {
+fn put_wait(buf: &mut [u8], at: usize, ticks: u32) -> usize
+    ensures { λ r. ⌜ Put (now (buf .entry)) at (waitText ticks) (now (buf .exit)) r ⌝ }
+{
     if ticks == 0 {
         return put_text(buf, at, b" wait=none ticks=0");
     }
@@ -31,7 +39,9 @@ fn put_wait(buf: &mut [u8], at: usize, ticks: u32) -> usize {
 }
 
 // The levels of a thread.
-fn put_levels(buf: &mut [u8], at: usize, t: u32, th: Thread) -> usize {
+fn put_levels(buf: &mut [u8], at: usize, t: u32, th: Thread) -> usize
+    ensures { λ r. ⌜ Put (now (buf .entry)) at (levelsText t th) (now (buf .exit)) r ⌝ }
+{
     let at = put_field(buf, at, b"thread ", t);
     let at = put_field(buf, at, b" state=", th.state as u32);
     let at = put_field(buf, at, b" prio=", th.priority as u32);
@@ -39,14 +49,18 @@ fn put_levels(buf: &mut [u8], at: usize, t: u32, th: Thread) -> usize {
 }
 
 // The mark, the held suspension and the held status.
-fn put_marks(buf: &mut [u8], at: usize, th: Thread, h: Held) -> usize {
+fn put_marks(buf: &mut [u8], at: usize, th: Thread, h: Held) -> usize
+    ensures { λ r. ⌜ Put (now (buf .entry)) at (marksText th h) (now (buf .exit)) r ⌝ }
+{
     let at = put_field(buf, at, b" mark=", bit(th.marked));
     let at = put_field(buf, at, b" held=", bit(th.suspending));
     put_field(buf, at, b" status=", h.status)
 }
 
 // What a thread waits for.
-fn put_request(buf: &mut [u8], at: usize, th: Thread, h: Held) -> usize {
+fn put_request(buf: &mut [u8], at: usize, th: Thread, h: Held) -> usize
+    ensures { λ r. ⌜ Put (now (buf .entry)) at (requestText th h) (now (buf .exit)) r ⌝ }
+{
     let at = put_field(buf, at, b" obj=", th.object as u32);
     let at = put_field(buf, at, b" front=", bit(h.front));
     let at = put_field(buf, at, b" req=", h.request);
@@ -54,7 +68,9 @@ fn put_request(buf: &mut [u8], at: usize, th: Thread, h: Held) -> usize {
 }
 
 // The held words, what the thread waits for and the message that it would send.
-fn put_held(buf: &mut [u8], at: usize, th: Thread, h: Held) -> usize {
+fn put_held(buf: &mut [u8], at: usize, th: Thread, h: Held) -> usize
+    ensures { λ r. ⌜ Put (now (buf .entry)) at (heldText th h) (now (buf .exit)) r ⌝ }
+{
     let words = h.held_words();
     let message = h.message();
     let at = put_text(buf, at, b" words=");
@@ -64,9 +80,12 @@ fn put_held(buf: &mut [u8], at: usize, th: Thread, h: Held) -> usize {
     put_words(buf, at, &message, b',')
 }
 
-fn put_record(buf: &mut [u8], at: usize, t: u32, th: Thread, h: Held) -> usize {
+// A thread's line, nothing where it is not created.
+fn put_record(buf: &mut [u8], at: usize, t: u32, th: Thread, h: Held) -> usize
+    ensures { λ r. ⌜ Put (now (buf .entry)) at (recordText t th h) (now (buf .exit)) r ⌝ }
+{
     if !th.created {
-        return at;
+        return put_nothing(buf, at);
     }
     let at = put_levels(buf, at, t, th);
     let at = put_marks(buf, at, th, h);
@@ -80,8 +99,10 @@ pub fn put_threads(
     at: usize,
     threads: [Thread; THREADS],
     held: [Held; THREADS],
-) -> usize {
-    let mut to = at;
+) -> usize
+    ensures { λ r. ⌜ Put (now (buf .entry)) at (threadsText threads held) (now (buf .exit)) r ⌝ }
+{
+    let mut to = put_nothing(buf, at);
     let mut t: usize = 0;
     while t < THREADS {
         to = put_record(buf, to, t as u32, threads[t], held[t]);
@@ -91,16 +112,20 @@ pub fn put_threads(
 }
 
 // The order of a priority, nothing where it is empty.
-fn put_order(buf: &mut [u8], at: usize, priority: u32, l: Line) -> usize {
+fn put_order(buf: &mut [u8], at: usize, priority: u32, l: Line) -> usize
+    ensures { λ r. ⌜ Put (now (buf .entry)) at (orderText priority (members l)) (now (buf .exit)) r ⌝ }
+{
     if l.size() == 0 {
-        return at;
+        return put_nothing(buf, at);
     }
     let at = put_field(buf, at, b"ready ", priority);
     put_line(buf, at, l)
 }
 
-pub fn put_orders(buf: &mut [u8], at: usize, s: Scheduler) -> usize {
-    let mut to = at;
+pub fn put_orders(buf: &mut [u8], at: usize, s: Scheduler) -> usize
+    ensures { λ r. ⌜ Put (now (buf .entry)) at (ordersText s) (now (buf .exit)) r ⌝ }
+{
+    let mut to = put_nothing(buf, at);
     let mut p: u32 = 0;
     while p < PRIORITIES {
         let l = s.line_at(Place::ready(p as u8));

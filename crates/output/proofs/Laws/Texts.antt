@@ -60,8 +60,8 @@ in-append buf at (x ∷ xs) ys =
     let q = byteEnd (length buf) at in
     in-append (set buf p x) q xs ys ∙ ap (λ (k : ℕ). textIn (textIn (set buf p x) q xs) (textEnd k q xs) ys) (length-set buf p x)
 
-pub put-append : (a b c : List ℕ) (at r s : ℕ) (xs ys : List ℕ) → Put a at xs b r → Put b r ys c s → Put a at (xs ++ ys) c s
-put-append a b c at r s xs ys p q =
+pub put-append : {a b c : List ℕ} {at r s : ℕ} {xs ys : List ℕ} → Put a at xs b r → Put b r ys c s → Put a at (xs ++ ys) c s
+put-append {a} {b} {c} {at} {r} {s} {xs} {ys} p q =
     let l : length b ≡ length a = ap length (p .bytes) ∙ length-in a at xs in
     record {
       end = q .end ∙ ap₂ (λ (n k : ℕ). textEnd n k ys) l (p .end) ∙ sym (end-append (length a) at xs ys);
@@ -73,6 +73,11 @@ put-append a b c at r s xs ys p q =
 pub put-none : (buf : List ℕ) (at : ℕ) → Put buf at [] buf (min at (length buf))
 unfolding textEnd textIn
 put-none buf at = record { end = refl; bytes = refl; within = omega arith }
+
+-- a position behind a text is one behind which nothing more has gone in yet
+pub put-start : {a b : List ℕ} {at r : ℕ} {xs : List ℕ} → Put a at xs b r → Put b r [] b r
+unfolding textEnd textIn
+put-start {a} {b} {at} {r} p = let w = p .within in record { end = omega (arith, w); bytes = refl; within = w }
 
 -- a byte that finds room, one that finds the buffer full, and one that finds a buffer of no size
 pub byte-room : (buf : List ℕ) (at b : ℕ) → at < length buf → Put buf at (b ∷ []) (set buf at b) (at + 1)
@@ -115,4 +120,4 @@ pub in-room : (buf : List ℕ) (at : ℕ) (bs : List ℕ) → at + length bs ≤
 in-room buf at bs h = in-sets buf at bs h ∙ sets-eq bs buf at h
 
 pub texts : TextClaims
-texts = record { roomEnd = end-room; roomBytes = in-room }
+texts = record { append = put-append; roomEnd = end-room; roomBytes = in-room }

@@ -27,7 +27,7 @@ loop-again c =
     let a = c .before .before .before .before .before .before .before .before .before .before .args in
     let l = c .before .before .before .before .before .before .loop in
     let h : l .i < length (a .text .now) = omega arith in
-    let p = put-append (a .buf .now) (l .buf) (c .before .before .put-byte .last .0) (a .at) (l .to) (c .before .before .put-byte .result) (take (l .i) (a .text .now)) (getD (a .text .now) (l .i) 0 ∷ []) (l .inv .2) (c .before .before .put-byte .ensures) in
+    let p = put-append (l .inv .2) (c .before .before .put-byte .ensures) in
     (omega arith, c .before .before .put-byte .kept .0 ∙ l .inv .1, rw (add-one, take-suc (a .text .now) (l .i) 0 h) p)
 
 returns : tie.Need-returns Inv-loop μ-loop

@@ -1,84 +1,68 @@
-use mathlib.Core.Path.{_≡_, refl, _∙_}
-use Prim.Native.Nat.{_≤_, _-_}
+use mathlib.Core.Path.{_≡_, refl, sym, ap, _∙_, subst}
+use Prim.Native.Nat.{_<_, _≤_, _-_}
 use native.Mathlib.Omega.{arith}
 use borrow.Author.Needs.{needs}
-use lib.ListN.{length}
+use lib.ListN.{length, take}
+use lib.Seq.{take-all}
+use Rattle.output.specs.Texts.{Put}
+use Rattle.output.proofs.Laws.Texts.{put-append, put-start}
+use Rattle.tape.specs.Tapes.{countOf, recordsOf}
+use Rattle.tape.proofs.Laws.Tapes.{length-records}
+use Rattle.kernel.specs.declared.Answer.{Answer}
+use Rattle.kernel.specs.General.{call}
+use Rattle.kernel.specs.Runs.{afterRecord, afterRecords}
+use Rattle.kernel.proofs.Laws.Runs.{after-more}
+use Rattle.replay.specs.Replay.{answerText, recordsText, callsText}
+use Rattle.replay.proofs.Laws.Replay.{records-more}
 use Rattle.replay.proofs.put_calls.Statement.{statement}
 use Rattle.replay.proofs.put_calls.Tie as tie
 
 abbrev Inv-loop : tie.InvT-loop
-Inv-loop buf₀ at bytes words n k₀ to₀ i₀ t11 buf k to i = (i ≤ n) × (length buf ≡ length buf₀)
+Inv-loop buf₀ at bytes words n k₀ to₀ i₀ t11 buf k to i = (i ≤ n) × (length buf ≡ length buf₀) × (k ≡ afterRecords k₀ words (take i (recordsOf bytes))) × Put buf₀ to₀ (recordsText k₀ words (take i (recordsOf bytes))) buf to
 
 abbrev μ-loop : tie.MeasureT-loop
 μ-loop buf₀ at bytes words n k₀ to₀ i₀ t11 buf k to i = n - i
 
-count-requires : tie.Need-count-requires Inv-loop μ-loop
-count-requires c κs = search needs
-
-start-requires : tie.Need-start-requires Inv-loop μ-loop
-start-requires c κs = search needs
-
-slice-aggregate-put-count : tie.Need-slice-aggregate-put-count Inv-loop μ-loop
-slice-aggregate-put-count c = search needs
-
-put-count-requires : tie.Need-put-count-requires Inv-loop μ-loop
-put-count-requires c κs = search needs
-
 loop-holds : tie.Need-loop-holds Inv-loop μ-loop
-loop-holds c = (omega arith, refl)
-
-cast-record-at : tie.Need-cast-record-at Inv-loop μ-loop
-cast-record-at c = search needs
-
-record-at-requires : tie.Need-record-at-requires Inv-loop μ-loop
-record-at-requires c κs = search needs
-
-carried-out-requires : tie.Need-carried-out-requires Inv-loop μ-loop
-carried-out-requires c κs = search needs
-
-put-answer-requires : tie.Need-put-answer-requires Inv-loop μ-loop
-put-answer-requires c κs = search needs
-
-add-i : tie.Need-add-i Inv-loop μ-loop
-add-i c = search needs
-
-loop-less : tie.Need-loop-less Inv-loop μ-loop
-loop-less c = search needs
+unfolding recordsText afterRecords
+loop-holds c = (omega arith, refl, refl, put-start (c .before .before .put-count .ensures))
 
 loop-again : tie.Need-loop-again Inv-loop μ-loop
-loop-again c = (omega arith, c .before .before .put-answer .kept .0 ∙ c .before .before .before .before .before .before .before .before .loop .inv .1)
-
-slice-aggregate-put-count-2 : tie.Need-slice-aggregate-put-count-2 Inv-loop μ-loop
-slice-aggregate-put-count-2 c = search needs
-
-put-count-requires-2 : tie.Need-put-count-requires-2 Inv-loop μ-loop
-put-count-requires-2 c κs = search needs
+unfolding answerText afterRecord
+loop-again c =
+    let a = c .before .before .before .before .before .before .before .before .before .before .before .before .before .before .before .before .before .before .before .args in
+    let l = c .before .before .before .before .before .before .before .before .loop in
+    let ms = a .words .now in
+    let bytes = a .bytes .now in
+    let n : l .i < countOf bytes = omega (arith, c .before .before .before .before .before .before .before .loop-test .taken, c .before .before .before .before .before .before .before .before .before .before .before .before .before .before .before .count .ensures) in
+    let e = c .before .before .before .before .before .carried-out .ensures ∙ (λ j. call (l .inv .2 j) (c .before .before .before .before .before .before .record-at .ensures j) ms) in (
+      omega arith,
+      c .before .before .put-answer .kept .0 ∙ l .inv .1,
+      ap (λ (x : Answer). x .kernel) e ∙ sym (after-more (c .before .before .before .before .before .before .before .before .before .before .before .before .before .before .start .result) ms bytes (l .i) n),
+      rw (records-more (c .before .before .before .before .before .before .before .before .before .before .before .before .before .before .start .result) ms bytes (l .i) n)
+          (put-append (l .inv .3) (subst (λ (x : Answer). Put (l .buf) (l .to) (answerText x) (c .before .before .put-answer .last .0) (c .before .before .put-answer .result)) e (c .before .before .put-answer .ensures))),
+    )
 
 same-length : tie.Need-same-length Inv-loop μ-loop
 same-length c = c .before .before .put-count2 .kept .0 ∙ c .before .before .before .before .before .before .loop .inv .1 ∙ c .before .before .before .before .before .before .before .before .before .put-count .kept .0
 
 returns : tie.Need-returns Inv-loop μ-loop
-returns c = search needs
+unfolding callsText
+returns c =
+    let a = c .before .before .before .before .before .before .before .before .before .before .before .before .before .before .before .before .before .args in
+    let l = c .before .before .before .before .before .before .loop in
+    let rs = recordsOf (a .bytes .now) in
+    let z = length-records (a .bytes .now) in
+    let e : c .before .before .before .before .before .before .before .before .before .before .before .before .before .count .result ≡ length rs = c .before .before .before .before .before .before .before .before .before .before .before .before .before .count .ensures ∙ sym z in
+    let i : l .i ≡ length rs = omega (arith, e, c .before .before .before .before .before .loop-test .left, l .inv .0) in
+    put-append
+    (put-append (rw e at (c .before .before .before .before .before .before .before .before .before .put-count .ensures)) (rw (take-all (l .i) rs (omega (arith, i)), c .before .before .before .before .before .before .before .before .before .before .before .before .start .ensures) at (l .inv .3)))
+    (rw i at (c .before .before .put-count2 .ensures))
 
 pub put-calls-spec : {M : Type 1} → statement M
 put-calls-spec =
     tie.close
-    (tie.spec
-    Inv-loop
-    μ-loop
-    count-requires
-    start-requires
-    slice-aggregate-put-count
-    put-count-requires
-    loop-holds
-    cast-record-at
-    record-at-requires
-    carried-out-requires
-    put-answer-requires
-    add-i
-    loop-less
-    loop-again
-    slice-aggregate-put-count-2
-    put-count-requires-2
-    same-length
+    (tie.spec Inv-loop μ-loop (λ c κs. search needs) (λ c κs. search needs) (λ c. search needs) (λ c κs. search needs)
+    loop-holds (λ c. search needs) (λ c κs. search needs) (λ c κs. search needs) (λ c κs. search needs)
+    (λ c. search needs) (λ c. search needs) loop-again (λ c. search needs) (λ c κs. search needs) same-length
     returns)

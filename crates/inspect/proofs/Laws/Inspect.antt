@@ -1,0 +1,39 @@
+-- Laws of what is printed of records: one record more of a tape.
+use mathlib.Core.Path.{_≡_, refl, sym, ap, ap₂, _∙_}
+use mathlib.Core.List.{List, [], _∷_, _++_, append-nil, append-assoc}
+use Prim.Native.Nat.{ℕ, suc, _+_, _<_}
+use native.Mathlib.Omega.{arith}
+use native.Mathlib.Numerals.{add-one}
+use lib.ListN.{length, take, getD}
+use lib.Seq.{take-suc, length-take-le}
+use Rattle.calls.specs.declared.call.Request.{Request}
+use Rattle.tape.specs.Tapes.{noRequest, countOf, recordAt, recordsOf}
+use Rattle.tape.proofs.Laws.Tapes.{length-records, record-in}
+use Rattle.kernel.specs.declared.Kernel.{Kernel}
+use Rattle.kernel.specs.General.{call}
+use Rattle.kernel.specs.Runs.{afterRecord, afterRecords}
+use Rattle.inspect.specs.Inspect.{recordText, recordsText}
+
+records-last : (i : ℕ) (k : Kernel) (ms : List ℕ) (rs : List Request) (r : Request)
+    → recordsText i k ms (rs ++ (r ∷ [])) ≡ recordsText i k ms rs ++ recordText (length rs + i) r (call (afterRecords k ms rs) r ms)
+unfolding recordsText afterRecords
+records-last i k ms [] r = append-nil (recordText i r (call k r ms)) ∙ ap (λ (n : ℕ). recordText n r (call k r ms)) (let e : i ≡ 0 + i = omega arith in e)
+records-last i k ms (x ∷ rs) r =
+    let here = recordText i x (call k x ms) in
+    let more = recordsText (suc i) (afterRecord k ms x) ms rs in
+    let last = call (afterRecords (afterRecord k ms x) ms rs) r ms in
+    ap (λ (l : List ℕ). here ++ l) (records-last (suc i) (afterRecord k ms x) ms rs r)
+    ∙ sym (append-assoc here more (recordText (length rs + suc i) r last))
+    ∙ ap (λ (n : ℕ). here ++ more ++ recordText n r last) (let e : length rs + suc i ≡ suc (length rs) + i = omega arith in e)
+
+-- one record more of a tape
+pub records-more : (k : Kernel) (ms bytes : List ℕ) (i : ℕ) → i < countOf bytes
+    → recordsText 0 k ms (take (i + 1) (recordsOf bytes))
+    ≡ recordsText 0 k ms (take i (recordsOf bytes)) ++ recordText i (recordAt bytes i) (call (afterRecords k ms (take i (recordsOf bytes))) (recordAt bytes i) ms)
+records-more k ms bytes i h =
+    let n = length-records bytes in
+    let l : length (take i (recordsOf bytes)) + 0 ≡ i = (let t = length-take-le i (recordsOf bytes) (omega (arith, n, h)) in omega (arith, t)) in
+    rw add-one
+    (ap (recordsText 0 k ms) (take-suc (recordsOf bytes) i noRequest (omega (arith, n, h)))
+    ∙ records-last 0 k ms (take i (recordsOf bytes)) (getD (recordsOf bytes) i noRequest)
+    ∙ ap₂ (λ (n : ℕ) (r : Request). recordsText 0 k ms (take i (recordsOf bytes)) ++ recordText n r (call (afterRecords k ms (take i (recordsOf bytes))) r ms)) l (record-in bytes i noRequest h))
