@@ -87,7 +87,7 @@ unnamed t e = if eqb (e .thread) t then [] else e ∷ []
 unfoldable pub ticked : Entry → List Entry
 ticked e =
     if eqb (e .ticks) forever then e ∷ []
-    else if ltb (e .ticks) 2 then []
+    else if eqb (e .ticks - 1) 0 then []
     else record { thread = e .thread; ticks = e .ticks - 1 } ∷ []
 
 -- rule 13.2: the roll after a call that is done; no other call changes it

@@ -4,6 +4,7 @@ pub mod Reads
 pub mod Edits
 pub mod Objects
 pub mod Waits
+pub mod Ticks
 pub mod Groups
 pub mod Sound
 pub mod Fits

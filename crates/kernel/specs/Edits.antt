@@ -2,7 +2,7 @@
 use mathlib.Core.Path.{_≡_}
 use mathlib.Core.List.{List, [], _∷_, _++_}
 use mathlib.Core.Bool.{Bool, true, false, _&&_}
-use Prim.Native.Nat.{ℕ, _-_}
+use Prim.Native.Nat.{ℕ}
 use lib.Dec.{eqb}
 use Rattle.lines.specs.Logic.{if_then_else_}
 use Rattle.lines.specs.Lists.{without, onlyIf, prioritised}
@@ -14,7 +14,7 @@ use Rattle.scheduler.specs.Choice.{rescheduled}
 use Rattle.calls.specs.declared.held.Held.{Held}
 use Rattle.calls.specs.Held.{noHeld, holding}
 use Rattle.calls.specs.Statuses as Statuses
-use Rattle.waiting.specs.Ticks.{timeoutStatus, withTicks}
+use Rattle.waiting.specs.Ticks.{timeoutStatus, oneTickLess}
 use Rattle.kernel.specs.declared.Kernel.{Kernel}
 use Rattle.kernel.specs.Tables.{threadOf, heldAt, withScheduler, withHeld, withClock}
 use Rattle.kernel.specs.Answers.{Outcome, refused}
@@ -90,7 +90,7 @@ unfoldable pub edited : Kernel → Edit → Kernel
 edited k (moves t m) =
     withHeld (withScheduler k (joined (k .scheduler) (frontb m) t (recordBy m (threadOf k t)))) t (heldBy m (threadOf k t) (heldAt k t))
 edited k (alters t f) = withScheduler k (withThread (k .scheduler) t (f (threadOf k t)))
-edited k (counts t) = withScheduler k (withThread (k .scheduler) t (withTicks (threadOf k t .ticks - 1) (threadOf k t)))
+edited k (counts t) = withScheduler k (withThread (k .scheduler) t (oneTickLess (threadOf k t)))
 edited k (ranks d n) = withScheduler k (prioritisedAt (k .scheduler) (placeOf d n))
 edited k (stores d n x) = withObject d k n x
 edited k (sets c) = withClock k c

@@ -1,10 +1,13 @@
 -- What the calls of an object do to it, as far as the roll and the accounts (rules 13.1 to 13.6) need it.
 use mathlib.Core.Path.{_≡_}
 use mathlib.Core.List.{List, [], _∷_}
-use mathlib.Core.Bool.{Bool, true, false}
+use mathlib.Core.Bool.{Bool, true, false, _&&_, not}
 use Prim.Native.Nat.{ℕ, _<_}
 use Prim.{Unit}
 use lib.Dec.{eqb}
+use Rattle.numbers.specs.Numbers.{threads}
+use Rattle.lines.specs.Logic.{oneIf}
+use Rattle.lines.specs.Lists.{count}
 use Rattle.scheduler.specs.Threads.{placedb}
 use Rattle.scheduler.specs.Orders.{firstAt}
 use Rattle.objects.specs.Queues.{emptyQueue}
@@ -13,19 +16,19 @@ use Rattle.blocks.specs.Pools.{freshPool, usedb, withFree}
 use Rattle.calls.specs.Services.{threadTerminate, threadWaitAbort, tick}
 use Rattle.calls.specs.Held.{noWords, oneWord}
 use Rattle.calls.specs.Messages.{messageIn}
+use Rattle.waiting.specs.Ticks.{timedb, lastTickb}
 use Rattle.kernel.specs.declared.Kernel.{Kernel}
 use Rattle.kernel.specs.Tables.{threadOf, heldAt, queueAt}
 use Rattle.kernel.specs.Kinds.{Kind, Object, sizeOf, placeOf, objectAt, createdb}
 use Rattle.kernel.specs.Kinds.Kind.{semaphore, queue, group, pool}
-use Rattle.kernel.specs.Edits.{Success, Effect}
-use Rattle.kernel.specs.Edits.Cause.{served}
+use Rattle.kernel.specs.Edits.{Move, movers, counted, Success, Effect}
+use Rattle.kernel.specs.Edits.Cause.{served, timedOut}
 use Rattle.kernel.specs.Edits.Move.{ends}
 use Rattle.kernel.specs.Edits.Edit.{moves, stores}
 use Rattle.calls.specs.Callers.{oneOf}
 use Rattle.kernel.specs.Roles.{rowOf, kindOf}
 use Rattle.kernel.specs.Effects.{does, oneMore, waitedb, counting, amountOf, oneLess}
 use Rattle.kernel.specs.Threads.{terminateEffect, abortEffect}
-use Rattle.kernel.specs.Clock.{tickEffect}
 
 -- thread t waits to take from object n
 abbrev pub Taker : Kind → Kernel → ℕ → ℕ → Type 0
@@ -96,6 +99,12 @@ pub record Gives (d : Kind) (k : Kernel) (n b c : ℕ) (messages : List ℕ) (e 
 abbrev pub Empties : Kind → Kernel → ℕ → Effect → Type 0
 Empties d k n e = (t : ℕ) → Taker d k n t → e .edits ≡ []
 
+-- rules 6.10, 13.2: a tick: whoever has no tick left then times out, and every other timed wait or sleep has one tick less
+pub record Ticks (k : Kernel) (e : Effect) : Type 0 where
+  pub over : (c : Move → Bool) → c (ends timedOut noWords) ≡ true → (t : ℕ) → t < threads
+      → count t (movers c (e .edits)) ≡ oneIf (lastTickb (threadOf k t))
+  pub less : (t : ℕ) → t < threads → count t (counted (e .edits)) ≡ oneIf (timedb (threadOf k t) && not (lastTickb (threadOf k t)))
+
 -- asked of a call only where it has the role
 abbrev pub When : Bool → Type 0 → Type 0
 When true A = A
@@ -111,4 +120,4 @@ Role k number n b c messages e =
     × When (oneOf number (rowOf (kindOf number) .empties)) (Empties (kindOf number) k n e)
     × When (eqb number threadTerminate) (e ≡ terminateEffect k n)
     × When (eqb number threadWaitAbort) (e ≡ abortEffect n)
-    × When (eqb number tick) (e ≡ tickEffect k)
+    × When (eqb number tick) (Ticks k e)

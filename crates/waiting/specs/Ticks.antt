@@ -1,7 +1,7 @@
 -- The ticks that are left of one thread's wait or sleep.
 use mathlib.Core.Bool.{Bool, _&&_, not}
-use Prim.Native.Nat.{ℕ}
-use lib.Dec.{eqb, ltb}
+use Prim.Native.Nat.{ℕ, _-_}
+use lib.Dec.{eqb}
 use Rattle.lines.specs.Logic.{if_then_else_}
 use Rattle.scheduler.specs.declared.thread.Thread.{Thread}
 use Rattle.scheduler.specs.Threads.{asleep, onQueue, onSemaphore, onFlags, pausedb}
@@ -39,6 +39,14 @@ withTicks n th =
       ticks = n;
     }
 
--- rule 6.10: a timed wait or sleep whose last tick this is
+-- rule 6.10: one tick less
+abbrev pub oneTickLess : Thread → Thread
+oneTickLess th = withTicks (th .ticks - 1) th
+
+-- rule 6.10: a wait or sleep with no tick left
+unfoldable pub atZerob : Thread → Bool
+atZerob th = pausedb th && eqb (th .ticks) 0
+
+-- rule 6.10: a timed wait or sleep that has no tick left when one is taken
 unfoldable pub lastTickb : Thread → Bool
-lastTickb th = timedb th && ltb (th .ticks) 2
+lastTickb th = timedb th && atZerob (oneTickLess th)

@@ -6,7 +6,7 @@ use Prim.Native.Nat.{ℕ, _-_, _<_, _≤_}
 use native.Mathlib.Omega.{arith}
 use lib.ListN.{length, drop, length-append}
 use lib.Seq.{drop-drop}
-use lib.Dec.{eqb, ltb}
+use lib.Dec.{eqb}
 use borrow.Author.Tests.{ltb-true, ltb-false, lt-ltb}
 use Rattle.lines.specs.Logic.{oneIf}
 use Rattle.lines.specs.Lists.{count}
@@ -86,7 +86,7 @@ module _ (d : Kind) (n : ℕ) where
   unfolding strikeOut unnamed ticked oneIf
   length-done m r =
       let named = length-each (unnamed (m .request .a)) (λ e. by-choice (Most 1) (eqb (e .thread) (m .request .a)) _ _ (λ z. omega arith) (λ z. omega arith)) r in
-      let timed = length-each ticked (λ e. by-choice (Most 1) (eqb (e .ticks) forever) _ _ (λ z. omega arith) (λ z. by-choice (Most 1) (ltb (e .ticks) 2) _ _ (λ y. omega arith) (λ y. omega arith))) r in
+      let timed = length-each ticked (λ e. by-choice (Most 1) (eqb (e .ticks) forever) _ _ (λ z. omega arith) (λ z. by-choice (Most 1) (eqb (e .ticks - 1) 0) _ _ (λ y. omega arith) (λ y. omega arith))) r in
       by-test (givesb d n m)
       (λ z. rw z (length-rest r))
       (λ z. rw z (by-choice (Most (length r - 0)) (eqb (m .request .number) 5 || eqb (m .request .number) 10) _ _ (λ y. omega (arith, named))
@@ -108,7 +108,7 @@ module _ (d : Kind) (n : ℕ) where
       (λ g. by-choice (Fewer u r) (eqb (m .request .number) 5 || eqb (m .request .number) 10) _ _
       (λ y. fewer-each u (unnamed (m .request .a)) (λ e. by-choice (Fewer u (e ∷ [])) (eqb (e .thread) (m .request .a)) _ _ (λ q. nobody-fewer u e) (λ q. omega arith)) r)
       (λ y. by-choice (Fewer u r) (eqb (m .request .number) 15) _ _
-      (λ w. fewer-each u ticked (λ e. by-choice (Fewer u (e ∷ [])) (eqb (e .ticks) forever) _ _ (λ q. omega arith) (λ q. by-choice (Fewer u (e ∷ [])) (ltb (e .ticks) 2) _ _ (λ v. nobody-fewer u e) (λ v. omega arith))) r)
+      (λ w. fewer-each u ticked (λ e. by-choice (Fewer u (e ∷ [])) (eqb (e .ticks) forever) _ _ (λ q. omega arith) (λ q. by-choice (Fewer u (e ∷ [])) (eqb (e .ticks - 1) 0) _ _ (λ v. nobody-fewer u e) (λ v. omega arith))) r)
       (λ w. omega arith))))
       (λ z. omega arith)
 

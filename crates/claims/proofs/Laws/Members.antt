@@ -1,29 +1,27 @@
 -- A roll beside the tables: what it says after a call by which some leave the line and others join it at the end.
 use mathlib.Core.Path.{_≡_, refl, sym, ap, _∙_}
 use mathlib.Core.List.{List, [], _∷_, _++_, append-assoc}
-use mathlib.Core.Bool.{true, _&&_, not}
+use mathlib.Core.Bool.{Bool, true, _&&_, not}
 use Prim.Native.Nat.{ℕ, _<_, _+_, _-_}
 use native.Mathlib.Omega.{arith}
-use lib.Dec.{eqb, ltb}
+use lib.Dec.{eqb}
 use Rattle.lines.specs.Logic.{oneIf}
-use Rattle.lines.specs.Lists.{filter, without, onlyIf, count, Begins, less}
+use Rattle.lines.specs.Lists.{filter, without, count, Begins, less}
 use Rattle.lines.proofs.Laws.Logic.{by-test, by-eq}
 use Rattle.lines.proofs.Laws.Lists
 use Rattle.lines.proofs.Laws.Less
-use Rattle.scheduler.specs.declared.thread.Thread.{Thread}
 use Rattle.scheduler.specs.declared.thread.Place.{Place}
 use Rattle.scheduler.specs.Threads.{pausedb}
 use Rattle.scheduler.specs.Sound.{Steady}
 use Rattle.scheduler.specs.Orders.{lineAt, firstAt}
 use Rattle.scheduler.proofs.Laws.Orders
-use Rattle.waiting.specs.Ticks.{forever, timedb, lastTickb}
-use Rattle.kernel.proofs.Laws.Waits.{tick-movers}
-use Rattle.kernel.proofs.Laws.Calls.Clock.{tick-count}
+use Rattle.waiting.specs.Ticks.{forever, timedb}
+use Rattle.waiting.proofs.Laws.Ticks.{last-is}
 use Rattle.kernel.proofs.Laws.Changes
 use Rattle.kernel.specs.declared.Kernel.{Kernel}
 use Rattle.kernel.specs.Tables.{threadOf, heldAt}
-use Rattle.kernel.specs.Edits.{gathered, mover, movers, countedBy, counted, leavesb}
-use Rattle.kernel.specs.Clock.{tickOf, tickEffect}
+use Rattle.kernel.specs.Edits.{gathered, movers, counted, leavesb, Effect}
+use Rattle.kernel.specs.Uses.{Ticks}
 use Rattle.claims.specs.Rolls.{Entry, names, rollOf, rest, each, unnamed, ticked}
 
 -- the line begins with the roll, and each member's ticks are those of its wait
@@ -131,36 +129,31 @@ pub passes-named : (p : Place) (k x : Kernel) (ts : List ℕ) (t : ℕ) (r : Lis
 passes-named p k x ts t r A R same = passes-untimed p k x ts [] A r R _ refl (ap (each (unnamed t)) (R .agrees) ∙ roll-unnamed k t (names r) ∙ ap (rollOf k) same)
 
 -- ---- a tick
--- who is counted by it
-counted-by : (th : Thread) (t : ℕ) → counted (tickOf th t) ≡ onlyIf (not (lastTickb th) && timedb th) t
-unfolding gathered tickOf
-counted-by th t = by-test (lastTickb th) (λ e. rw e) (λ e. by-test (timedb th) (λ y. rw (e, y)) (λ y. rw (e, y)))
-
-module _ (p : Place) (k x : Kernel) where
+module _ (p : Place) (k x : Kernel) (e : Effect) (T : Ticks k e) where
   abbrev ts : List ℕ
-  ts = movers (leavesb p) (tickEffect k .edits)
+  ts = movers (leavesb p) (e .edits)
 
   abbrev cs : List ℕ
-  cs = counted (tickEffect k .edits)
+  cs = counted (e .edits)
 
   -- a waiter, and its ticks afterwards if it has not left
-  abbrev Ticks : ℕ → Type 0
-  Ticks u = (u < 32) × (pausedb (threadOf k u) ≡ true) × (count u ts ≡ 0 → threadOf x u .ticks ≡ threadOf k u .ticks - count u cs)
+  abbrev Left : ℕ → Type 0
+  Left u = (u < 32) × (pausedb (threadOf k u) ≡ true) × (count u ts ≡ 0 → threadOf x u .ticks ≡ threadOf k u .ticks - count u cs)
 
-  roll-ticked : (xs : List ℕ) → ((u : ℕ) → 0 < count u xs → Ticks u) → each ticked (rollOf k xs) ≡ rollOf x (less ts xs)
-  unfolding each ticked rollOf less filter gathered leavesb lastTickb timedb oneIf
+  roll-ticked : (xs : List ℕ) → ((u : ℕ) → 0 < count u xs → Left u) → each ticked (rollOf k xs) ≡ rollOf x (less ts xs)
+  unfolding each ticked rollOf less filter gathered leavesb timedb oneIf
   roll-ticked [] h = refl
   roll-ticked (u ∷ us) h =
       let (small, paused, left) = h u (omega (arith, Lists.count-here u us)) in
       let rest = roll-ticked us (λ v c. h v (in-tail u us v c)) in
       let n = threadOf k u .ticks in
-      let a = tick-count k (mover (leavesb p)) lastTickb (λ i. refl) (λ th t. tick-movers k t th (leavesb p) refl) u small in
-      let c = tick-count k countedBy (λ th. not (lastTickb th) && timedb th) (λ i. refl) counted-by u small in
+      let a = T .over (leavesb p) refl u small ∙ ap oneIf (last-is (threadOf k u)) in
+      let c = T .less u small ∙ ap (λ (b : Bool). oneIf (timedb (threadOf k u) && not b)) (last-is (threadOf k u)) in
       by-test (eqb n forever)
       (λ f. let z : count u ts ≡ 0 = a ∙ rw (paused, f) in let y : count u cs ≡ 0 = c ∙ rw (paused, f) in
       let t : n ≡ threadOf x u .ticks = omega (arith, left z, y) in
       rw (f, z) (λ i. record { thread = u; ticks = t i } ∷ rest i))
-      (λ f. by-test (ltb n 2)
+      (λ f. by-test (eqb (n - 1) 0)
       (λ g. let z : count u ts ≡ 1 = a ∙ rw (paused, f, g) in rw (f, g, z) rest)
       (λ g. let z : count u ts ≡ 0 = a ∙ rw (paused, f, g) in let y : count u cs ≡ 1 = c ∙ rw (paused, f, g) in
       let t : n - 1 ≡ threadOf x u .ticks = omega (arith, left z, y) in

@@ -147,7 +147,7 @@ module _ (d : Kind) (o : rolledb d ≡ true) (n t : ℕ) (k : Kernel) (r : List 
 
       ticked-passes : m .request .number ≡ 15 → Members.Passes p k x r (each ticked r)
       ticked-passes i =
-          Members.passes-ticked p k x (left-by _ (ap (λ (f : Effect). f .edits) (Does.when (R .6) (eq-eqb (m .request .number) 15 i)))) r (λ v c. (small v c, Fits.placed-paused p waiters (threadOf k v) (placed v c))) (L .rolls)
+          Members.passes-ticked p k x e (Does.when (R .6) (eq-eqb (m .request .number) 15 i)) (left-by es refl) r (λ v c. (small v c, Fits.placed-paused p waiters (threadOf k v) (placed v c))) (L .rolls)
 
       other-passes : givesb d n m ≡ false → (eqb (m .request .number) 5 || eqb (m .request .number) 10) ≡ false → eqb (m .request .number) 15 ≡ false → Members.Passes p k x r r
       unfolding gathered

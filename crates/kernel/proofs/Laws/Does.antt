@@ -1,5 +1,5 @@
 -- What a call does: it is refused for a reason, or it carries out an effect. What follows from that for every call.
-use mathlib.Core.Path.{_≡_, refl, sym, ap, subst}
+use mathlib.Core.Path.{_≡_, refl, sym, ap, _∙_, subst}
 use mathlib.Core.List.{List, [], _∷_}
 use mathlib.Core.Bool.{Bool, true, false}
 use Prim.Native.Nat.{ℕ, _<_, _≤_}
@@ -53,6 +53,15 @@ pub record Does (k : Kernel) (caller n a b c : ℕ) (messages : List ℕ) (reaso
   pub proper : Sound k → (eqb caller 2 ≡ true → runnerOf k < 32) → reason ≡ 0 → Proper k n a effect
   pub role : Sound k → reason ≡ 0 → Role k n a b c messages effect
 
+-- a call whose effect comes to another, of which the theorem is
+pub record Acts (k : Kernel) (caller n a b c : ℕ) (messages : List ℕ) (reason : ℕ) (effect : Effect) : Type 0 where
+  pub other : Effect
+  pub same : carriedOut k effect ≡ carriedOut k other
+  pub does : Does k caller n a b c messages reason other
+
+pub itself : {k : Kernel} {caller n a b c : ℕ} {messages : List ℕ} {reason : ℕ} {effect : Effect} → Does k caller n a b c messages reason effect → Acts k caller n a b c messages reason effect
+itself {effect = effect} D = record { other = effect; same = refl; does = D }
+
 -- what is asked of a role, and a call that has none
 pub when : {b : Bool} {A : Type 0} → When b A → b ≡ true → A
 when {b} {A} w e = subst (λ (x : Bool). When x A) e w
@@ -69,11 +78,11 @@ pub data Step (k : Kernel) (n a b c : ℕ) (messages : List ℕ) (o : Outcome) :
   refuses : (s : ℕ) → eqb s 0 ≡ false → o ≡ refused k s → Step k n a b c messages o
   carries : (e : Effect) → o ≡ carriedOut k e → Proper k n a e → Role k n a b c messages e → Step k n a b c messages o
 
-pub step-of : (k : Kernel) → Sound k → (caller n a b c : ℕ) (messages : List ℕ) (reason : ℕ) (e : Effect) → (eqb caller 2 ≡ true → runnerOf k < 32) → Does k caller n a b c messages reason e
+pub step-of : (k : Kernel) → Sound k → (caller n a b c : ℕ) (messages : List ℕ) (reason : ℕ) (e : Effect) → (eqb caller 2 ≡ true → runnerOf k < 32) → Acts k caller n a b c messages reason e
     → Step k n a b c messages (guarded k reason e)
-step-of k S caller n a b c messages reason e runs D =
+step-of k S caller n a b c messages reason e runs A =
     by-eq reason 0
-    (λ z. carries e (is-carried k reason e z) (D .proper S runs z) (D .role S z))
+    (λ z. carries (A .other) (is-carried k reason e z ∙ A .same) (A .does .proper S runs z) (A .does .role S z))
     (λ z. refuses reason (ne-eqb reason 0 z) (is-refused k reason e z))
 
 -- to wait is not to be done

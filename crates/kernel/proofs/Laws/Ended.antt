@@ -14,7 +14,7 @@ use Rattle.lines.proofs.Laws.Logic.{by-test, by-eq, never, and-left, and-right,
 use Rattle.lines.proofs.Laws.Lists
 use Rattle.lines.proofs.Laws.Less
 use Rattle.scheduler.specs.declared.thread.Thread.{Thread}
-use Rattle.scheduler.specs.Threads.{uncreated, terminated, asleep, onQueue, onSemaphore, onFlags, readyb, waitsb, sleepsb, pausedb, awake, inState}
+use Rattle.scheduler.specs.Threads.{uncreated, terminated, asleep, onQueue, onSemaphore, onFlags, waitsb, sleepsb, pausedb, awake, inState}
 use Rattle.scheduler.proofs.Laws.Threads.{none-at}
 use Rattle.scheduler.proofs.Laws.States
 use Rattle.calls.specs.declared.call.Request.{Request}
@@ -28,13 +28,11 @@ use Rattle.kernel.specs.declared.Kernel.{Kernel}
 use Rattle.kernel.specs.declared.Answer.{Answer}
 use Rattle.kernel.specs.Tables.{threadOf, heldAt}
 use Rattle.kernel.specs.Answers.{Outcome, answerOf, refused}
-use Rattle.kernel.specs.Kinds.{Kind}
 use Rattle.kernel.specs.Kinds.Kind.{semaphore, queue, group, pool}
 use Rattle.kernel.specs.Sound.{soundb, Sized, Sound}
 use Rattle.kernel.specs.Edits.{Cause, statusBy, Move, recordBy, heldBy, Edit, applied, movers, anyb, counted, endsb, startsb, Effect, carriedOut}
 use Rattle.kernel.specs.Edits.Cause.{served, deleted, timedOut, aborted}
 use Rattle.kernel.specs.Edits.Move.{ends, starts, stops, turns}
-use Rattle.kernel.specs.Edits.Edit.{moves, alters, counts, ranks, stores, sets}
 use Rattle.kernel.specs.Roles.{rowOf, limitOf, mayMoveb, mayb, allb}
 use Rattle.kernel.specs.Refusals.{refusals}
 use Rattle.kernel.specs.General.{step, unsound, call}

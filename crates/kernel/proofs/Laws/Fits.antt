@@ -8,7 +8,7 @@ use native.Mathlib.Omega.{arith}
 use lib.ListN.{length, length-set}
 use lib.Seq.{getD-set-same, getD-set-other}
 use lib.Dec.{eqb, ltb}
-use borrow.Author.Tests.{eqb-true, lt-ltb, ltb-false, ne-eqb}
+use borrow.Author.Tests.{eqb-true, eqb-false, lt-ltb, ltb-true, ltb-false, ne-eqb}
 use Rattle.lines.specs.Logic.{if_then_else_, oneIf, implies}
 use Rattle.lines.specs.Lists.{count}
 use Rattle.lines.proofs.Laws.Logic.{by-test, by-eq, by-choice, never, and-left, and-right, and-in, or-left, implies-in}
@@ -26,8 +26,9 @@ use Rattle.scheduler.proofs.Laws.States
 use Rattle.calls.specs.declared.held.Held.{Held}
 use Rattle.calls.specs.Held.{noWords, noHeld}
 use Rattle.calls.specs.Statuses as Statuses
-use Rattle.waiting.specs.Ticks.{timedb, timeoutStatus, withTicks, lastTickb}
+use Rattle.waiting.specs.Ticks.{timedb, timeoutStatus, withTicks, oneTickLess, atZerob, lastTickb}
 use Rattle.waiting.specs.Fit.{waitsOnb, sendsb, statusFitb, wordsFitb, senderFitb, requestFitb, unheldFitb, heldFitb}
+use Rattle.waiting.proofs.Laws.Ticks.{last-is}
 use Rattle.kernel.specs.Kinds as Kinds
 use Rattle.waiting.proofs.Laws.Held
 use Rattle.kernel.specs.declared.Kernel.{Kernel}
@@ -125,11 +126,12 @@ module _ (th : Thread) (timed : timedb th ≡ true) where
 
 pub last-timed : (th : Thread) → lastTickb th ≡ true → timedb th ≡ true
 unfolding lastTickb
-last-timed th e = and-left (timedb th) (ltb (th .ticks) 2) e
+last-timed th e = and-left (timedb th) (atZerob (oneTickLess th)) e
 
 pub ticks-left : (th : Thread) → timedb th ≡ true → lastTickb th ≡ false → 1 < th .ticks
-unfolding lastTickb
-ticks-left th t e = let l = ltb-false (th .ticks) 2 (sym (ap (λ (b : Bool). b && ltb (th .ticks) 2) t) ∙ e) in omega (arith, l)
+ticks-left th t e =
+    let z = eqb-false (th .ticks - 1) 0 (sym (ap (λ (b : Bool). b && eqb (th .ticks - 1) 0) t) ∙ sym (last-is th) ∙ e) in
+    by-test (ltb 1 (th .ticks)) (λ l. ltb-true 1 (th .ticks) l) (λ l. absurd (z (let h = ltb-false 1 (th .ticks) l in omega (arith, h))))
 
 -- one tick less is a record that changes where the thread stands
 pub one-less : (k : Kernel) → Steady (k .scheduler) → (t : ℕ) → timedb (threadOf k t) ≡ true → lastTickb (threadOf k t) ≡ false → Altered k t (withTicks (threadOf k t .ticks - 1) (threadOf k t))

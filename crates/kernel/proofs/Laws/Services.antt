@@ -24,6 +24,7 @@ use Rattle.kernel.specs.Chains.{chainOf, nobodyRunsb, chained}
 use Rattle.kernel.specs.General.{effectOf, stepOf, step}
 use Rattle.kernel.specs.Claims.{doneb, Unchanged}
 use Rattle.kernel.proofs.Laws.Refusals.{Same, same-reason, reason-known}
+use Rattle.kernel.proofs.Laws.Ticks.{onePass, tick-same}
 use Rattle.kernel.proofs.Laws.Does
 use Rattle.kernel.proofs.Laws.Calls.Threads
 use Rattle.kernel.proofs.Laws.Calls.Clock
@@ -35,52 +36,52 @@ use Rattle.kernel.proofs.Laws.Calls.Pools
 module _ (k : Kernel) (caller a b c d : ℕ) (messages : List ℕ) where
   -- a known call of number n does what its theorem says
   abbrev By : ℕ → Decoded → Type 0
-  By n (Known call) = Does.Does k caller n (min a (limitOf n)) b c messages (chainOf k caller call messages) (effectOf k call messages)
+  By n (Known call) = Does.Acts k caller n (min a (limitOf n)) b c messages (chainOf k caller call messages) (effectOf k call messages)
   By n Unknown = Unit {0}
 
   -- the calls one by one: the only place in these laws that goes through all of them
   known-does : (n : ℕ) → By n (knownCall n a b c d)
   unfolding knownCall chainOf effectOf limitOf
   known-does n =
-      by-number By n 1 _ _ (Threads.create-does k b c messages caller (min a 32) b c d) (
-      by-number By n 2 _ _ (Threads.delete-does k b c messages caller (min a 32)) (
-      by-number By n 3 _ _ (Threads.resume-does k b c messages caller (min a 32)) (
-      by-number By n 4 _ _ (Threads.suspend-does k b c messages caller (min a 32)) (
-      by-number By n 5 _ _ (Threads.terminate-does k b c messages caller (min a 32)) (
-      by-number By n 6 _ _ (Threads.reset-does k b c messages caller (min a 32)) (
-      by-number By n 7 _ _ (Threads.finish-does k b c messages caller (min a 32)) (
-      by-number By n 8 _ _ (Threads.relinquish-does k b c messages caller (min a 32)) (
-      by-number By n 9 _ _ (Threads.sleep-does k b c messages caller (min a 32) a) (
-      by-number By n 10 _ _ (Threads.abort-does k b c messages caller (min a 32)) (
-      by-number By n 11 _ _ (Threads.priority-does k b c messages caller (min a 32) b) (
-      by-number By n 12 _ _ (Threads.preemption-does k b c messages caller (min a 32) b) (
-      by-number By n 13 _ _ (Clock.get-does k b c messages caller (min a 32)) (
-      by-number By n 14 _ _ (Clock.set-does k b c messages caller (min a 32) a) (
-      by-number By n 15 _ _ (Clock.tick-does k b c messages caller (min a 32)) (
-      by-number By n 16 _ _ (Semaphores.create-does k b c messages caller (min a 16)) (
-      by-number By n 17 _ _ (Semaphores.delete-does k b c messages caller (min a 16)) (
-      by-number By n 18 _ _ (Semaphores.get-does k b c messages caller (min a 16) b) (
-      by-number By n 19 _ _ (Semaphores.put-does k b c messages caller (min a 16)) (
-      by-number By n 20 _ _ (Semaphores.ceiling-does k b c messages caller (min a 16) b) (
-      by-number By n 21 _ _ (Semaphores.prioritize-does k b c messages caller (min a 16)) (
-      by-number By n 22 _ _ (Queues.create-does k b c messages caller (min a 8)) (
-      by-number By n 23 _ _ (Queues.delete-does k b c messages caller (min a 8)) (
-      by-number By n 24 _ _ (Queues.send-does k b c messages caller (min a 8) b) (
-      by-number By n 25 _ _ (Queues.front-does k b c messages caller (min a 8) b) (
-      by-number By n 26 _ _ (Queues.receive-does k b c messages caller (min a 8) b) (
-      by-number By n 27 _ _ (Queues.flush-does k b c messages caller (min a 8)) (
-      by-number By n 28 _ _ (Queues.prioritize-does k b c messages caller (min a 8)) (
-      by-number By n 29 _ _ (Groups.create-does k b c messages caller (min a 8)) (
-      by-number By n 30 _ _ (Groups.delete-does k b c messages caller (min a 8)) (
-      by-number By n 31 _ _ (Groups.set-does k b c messages caller (min a 8) b c) (
-      by-number By n 32 _ _ (Groups.get-does k b c messages caller (min a 8) b c d) (
-      by-number By n 33 _ _ (Pools.create-does k b c messages caller (min a 4)) (
-      by-number By n 34 _ _ (Pools.delete-does k b c messages caller (min a 4)) (
-      by-number By n 35 _ _ (Pools.allocate-does k b c messages caller (min a 4) b) (
-      by-number By n 36 _ _ (Pools.release-does k b c messages caller (min a 4)) (
-      by-number By n 37 _ _ (Pools.prioritize-does k b c messages caller (min a 4)) (
-      by-number By n 38 _ _ (Threads.state-does k b c messages caller (min a 32)) (
-      by-number By n 39 _ _ (Threads.words-does k b c messages caller (min a 32)) (
+      by-number By n 1 _ _ (Does.itself (Threads.create-does k b c messages caller (min a 32) b c d)) (
+      by-number By n 2 _ _ (Does.itself (Threads.delete-does k b c messages caller (min a 32))) (
+      by-number By n 3 _ _ (Does.itself (Threads.resume-does k b c messages caller (min a 32))) (
+      by-number By n 4 _ _ (Does.itself (Threads.suspend-does k b c messages caller (min a 32))) (
+      by-number By n 5 _ _ (Does.itself (Threads.terminate-does k b c messages caller (min a 32))) (
+      by-number By n 6 _ _ (Does.itself (Threads.reset-does k b c messages caller (min a 32))) (
+      by-number By n 7 _ _ (Does.itself (Threads.finish-does k b c messages caller (min a 32))) (
+      by-number By n 8 _ _ (Does.itself (Threads.relinquish-does k b c messages caller (min a 32))) (
+      by-number By n 9 _ _ (Does.itself (Threads.sleep-does k b c messages caller (min a 32) a)) (
+      by-number By n 10 _ _ (Does.itself (Threads.abort-does k b c messages caller (min a 32))) (
+      by-number By n 11 _ _ (Does.itself (Threads.priority-does k b c messages caller (min a 32) b)) (
+      by-number By n 12 _ _ (Does.itself (Threads.preemption-does k b c messages caller (min a 32) b)) (
+      by-number By n 13 _ _ (Does.itself (Clock.get-does k b c messages caller (min a 32))) (
+      by-number By n 14 _ _ (Does.itself (Clock.set-does k b c messages caller (min a 32) a)) (
+      by-number By n 15 _ _ (record { other = onePass k; same = tick-same k; does = Clock.tick-does k b c messages caller (min a 32) }) (
+      by-number By n 16 _ _ (Does.itself (Semaphores.create-does k b c messages caller (min a 16))) (
+      by-number By n 17 _ _ (Does.itself (Semaphores.delete-does k b c messages caller (min a 16))) (
+      by-number By n 18 _ _ (Does.itself (Semaphores.get-does k b c messages caller (min a 16) b)) (
+      by-number By n 19 _ _ (Does.itself (Semaphores.put-does k b c messages caller (min a 16))) (
+      by-number By n 20 _ _ (Does.itself (Semaphores.ceiling-does k b c messages caller (min a 16) b)) (
+      by-number By n 21 _ _ (Does.itself (Semaphores.prioritize-does k b c messages caller (min a 16))) (
+      by-number By n 22 _ _ (Does.itself (Queues.create-does k b c messages caller (min a 8))) (
+      by-number By n 23 _ _ (Does.itself (Queues.delete-does k b c messages caller (min a 8))) (
+      by-number By n 24 _ _ (Does.itself (Queues.send-does k b c messages caller (min a 8) b)) (
+      by-number By n 25 _ _ (Does.itself (Queues.front-does k b c messages caller (min a 8) b)) (
+      by-number By n 26 _ _ (Does.itself (Queues.receive-does k b c messages caller (min a 8) b)) (
+      by-number By n 27 _ _ (Does.itself (Queues.flush-does k b c messages caller (min a 8))) (
+      by-number By n 28 _ _ (Does.itself (Queues.prioritize-does k b c messages caller (min a 8))) (
+      by-number By n 29 _ _ (Does.itself (Groups.create-does k b c messages caller (min a 8))) (
+      by-number By n 30 _ _ (Does.itself (Groups.delete-does k b c messages caller (min a 8))) (
+      by-number By n 31 _ _ (Does.itself (Groups.set-does k b c messages caller (min a 8) b c)) (
+      by-number By n 32 _ _ (Does.itself (Groups.get-does k b c messages caller (min a 8) b c d)) (
+      by-number By n 33 _ _ (Does.itself (Pools.create-does k b c messages caller (min a 4))) (
+      by-number By n 34 _ _ (Does.itself (Pools.delete-does k b c messages caller (min a 4))) (
+      by-number By n 35 _ _ (Does.itself (Pools.allocate-does k b c messages caller (min a 4) b)) (
+      by-number By n 36 _ _ (Does.itself (Pools.release-does k b c messages caller (min a 4))) (
+      by-number By n 37 _ _ (Does.itself (Pools.prioritize-does k b c messages caller (min a 4))) (
+      by-number By n 38 _ _ (Does.itself (Threads.state-does k b c messages caller (min a 32))) (
+      by-number By n 39 _ _ (Does.itself (Threads.words-does k b c messages caller (min a 32))) (
       tt)))))))))))))))))))))))))))))))))))))))
 
   decoded-does : (n : ℕ) → By n (if ltb 2 caller then Unknown else knownCall n a b c d)

@@ -1,33 +1,23 @@
--- Laws of ending several waits and of ticks, as loops go: one thread more.
+-- Laws of ending several waits, as loops go: one thread more.
 use mathlib.Core.Path.{_≡_, refl, sym, ap, _∙_}
 use mathlib.Core.List.{List, [], _∷_, _++_, append-nil}
 use mathlib.Core.Bool.{Bool, true, false}
-use Prim.Native.Nat.{ℕ, zero, suc, _+_, _<_, _≤_}
-use native.Mathlib.Omega.{arith}
-use native.Mathlib.Numerals.{add-one}
-use lib.ListN.{length, take, getD, length-append, length-set}
-use lib.Seq.{getD-set-other}
-use Rattle.lines.specs.Logic.{oneIf}
-use Rattle.lines.specs.Lists.{onlyIf}
-use Rattle.lines.proofs.Laws.Logic.{by-test, by-choice}
+use Prim.Native.Nat.{ℕ, _+_, _<_}
+use lib.ListN.{length, take, getD, length-set}
 use Rattle.lines.proofs.Laws.Lines.{take-one}
 use Rattle.scheduler.specs.declared.Scheduler.{Scheduler}
-use Rattle.scheduler.specs.declared.thread.Thread.{Thread}
-use Rattle.scheduler.specs.Threads.{uncreated, awake}
+use Rattle.scheduler.specs.Threads.{awake}
 use Rattle.scheduler.specs.Orders.{threadAt, withThread, withOrder, moved, joined, woken}
 use Rattle.scheduler.specs.Choice.{rescheduled}
 use Rattle.calls.specs.Held.{noWords, holding}
-use Rattle.waiting.specs.Ticks.{timedb, lastTickb}
 use Rattle.kernel.specs.declared.Kernel.{Kernel}
-use Rattle.kernel.specs.Tables.{threadOf, heldAt, withScheduler, withHeld, withSemaphore, withQueue, withGroup, withPool}
+use Rattle.kernel.specs.Tables.{heldAt, withScheduler, withHeld, withSemaphore, withQueue, withGroup, withPool}
 use Rattle.kernel.specs.Kinds.{Kind, Object, withObject}
-use Rattle.kernel.specs.Edits.{Cause, Holds, Move, recordBy, heldBy, frontb, Edit, edited, applied, gathered, mover, movers, endsb, statusOf, carriedOut}
-use Rattle.kernel.specs.Edits.Cause.{timedOut}
+use Rattle.kernel.specs.Edits.{Cause, Holds, Move, recordBy, heldBy, frontb, edited, applied, gathered, mover, movers, endsb, statusOf, carriedOut}
 use Rattle.kernel.specs.Edits.Move.{ends}
-use Rattle.kernel.specs.Edits.Edit.{moves, counts, stores}
+use Rattle.kernel.specs.Edits.Edit.{moves, stores}
 use Rattle.kernel.specs.Edits.Success.{done}
 use Rattle.kernel.specs.Effects.{does, endsEach}
-use Rattle.kernel.specs.Clock.{tickOf, ticksBelow}
 use Rattle.kernel.proofs.Laws.Objects.{by-kind}
 use Rattle.kernel.proofs.Laws.Edits
 
@@ -71,58 +61,6 @@ module _ (c : Cause) (words : List ℕ) where
       let p = each-object d k n x xs ∙ sym (Edits.applied-append k es (stores d n x ∷ [])) in
       let q = sym (Edits.gathered-append (mover endsb) es (stores d n x ∷ []) ∙ append-nil (movers endsb es)) in
       λ i. record { status = statusOf done; words = noWords; ended = q i; kernel = withScheduler (p i) (rescheduled (p i .scheduler) false) }
-
--- ---- ticks
--- by the three cases of a record
-module _ (k : Kernel) (n : ℕ) (th : Thread) where
-  pub tick-last : lastTickb th ≡ true → applied k (tickOf th n) ≡ edited k (moves n (ends timedOut noWords))
-  unfolding tickOf applied
-  tick-last e = rw e
-
-  pub tick-timed : lastTickb th ≡ false → timedb th ≡ true → applied k (tickOf th n) ≡ edited k (counts n)
-  unfolding tickOf applied
-  tick-timed e f = rw (e, f)
-
-  pub tick-none : lastTickb th ≡ false → timedb th ≡ false → applied k (tickOf th n) ≡ k
-  unfolding tickOf applied
-  tick-none e f = rw (e, f)
-
-  -- the tick of thread n leaves the others' records
-  tick-other : (u : ℕ) → (u ≡ n → ⊥) → threadOf (applied k (tickOf th n)) u ≡ threadOf k u
-  unfolding tickOf applied edited recordBy frontb joined withHeld withScheduler moved withOrder withThread threadAt
-  tick-other u h =
-      by-choice (λ (es : List Edit). threadOf (applied k es) u ≡ threadOf k u) (lastTickb th) _ _
-      (λ e. getD-set-other (k .scheduler .threads) n u _ uncreated h)
-      (λ e. by-choice (λ (es : List Edit). threadOf (applied k es) u ≡ threadOf k u) (timedb th) _ _ (λ f. getD-set-other (k .scheduler .threads) n u _ uncreated h) (λ f. refl))
-
-  -- whom it moves, in a way that counts: whose last tick it is
-  pub tick-movers : (c : Move → Bool) → c (ends timedOut noWords) ≡ true → movers c (tickOf th n) ≡ onlyIf (lastTickb th) n
-  unfolding gathered tickOf
-  tick-movers c y = by-test (lastTickb th) (λ e. rw (e, y)) (λ e. by-test (timedb th) (λ f. rw (e, f)) (λ f. rw (e, f)))
-
--- threads from n on are as they were
-pub below-other : (k : Kernel) (n u : ℕ) → n ≤ u → threadOf (applied k (ticksBelow n k)) u ≡ threadOf k u
-unfolding ticksBelow applied
-below-other k zero u h = refl
-below-other k (suc n) u h =
-    ap (λ (x : Kernel). threadOf x u) (Edits.applied-append k (ticksBelow n k) (tickOf (threadOf k n) n))
-    ∙ tick-other (applied k (ticksBelow n k)) n (threadOf k n) u (λ e. omega (arith, e, h)) ∙ below-other k n u (omega (arith, h))
-
--- one thread more
-module _ (k : Kernel) (n : ℕ) where
-  abbrev x : Kernel
-  x = applied k (ticksBelow n k)
-
-  pub more-below : applied k (ticksBelow (n + 1) k) ≡ applied x (tickOf (threadOf x n) n)
-  unfolding ticksBelow
-  more-below = rw (add-one, below-other k n n (omega arith)) (Edits.applied-append k (ticksBelow n k) (tickOf (threadOf k n) n))
-
-  pub more-ended : length (movers endsb (ticksBelow (n + 1) k)) ≡ length (movers endsb (ticksBelow n k)) + oneIf (lastTickb (threadOf k n))
-  unfolding ticksBelow endsb oneIf
-  more-ended =
-      rw add-one (ap (λ (l : List ℕ). length l) (Edits.gathered-append (mover endsb) (ticksBelow n k) (tickOf (threadOf k n) n) ∙ ap (λ (l : List ℕ). movers endsb (ticksBelow n k) ++ l) (tick-movers k n (threadOf k n) endsb refl))
-      ∙ length-append (movers endsb (ticksBelow n k)) (onlyIf (lastTickb (threadOf k n)) n)
-      ∙ ap (λ (i : ℕ). length (movers endsb (ticksBelow n k)) + i) (by-test (lastTickb (threadOf k n)) (λ e. rw e) (λ e. rw e)))
 
 -- the table keeps its size
 pub woken-sized : (s : Scheduler) (t : ℕ) (r : Scheduler) → r ≡ woken s t → length (s .threads) ≡ 32 → length (r .threads) ≡ 32

@@ -16,13 +16,14 @@ use Rattle.waiting.specs.Ticks.{timedb, timeoutStatus, withTicks, lastTickb}
 use Rattle.scheduler.proofs.Laws.Threads.{length-mapped}
 use Rattle.kernel.specs.declared.Kernel.{Kernel}
 use Rattle.kernel.specs.Tables.{threadOf, heldAt, withScheduler, withHeld, withClock}
+use Rattle.kernel.specs.Answers.{answerOf}
 use Rattle.kernel.specs.Edits.{statusBy, recordBy, heldBy, frontb, edited, applied, gathered, mover, movers, endsb}
 use Rattle.kernel.specs.Edits.Cause.{timedOut}
 use Rattle.kernel.specs.Edits.Move.{ends}
 use Rattle.kernel.specs.Edits.Edit.{moves, counts, sets}
 use Rattle.kernel.specs.Effects.{oneMore}
-use Rattle.kernel.specs.Clock.{ticksBelow, tickEffect}
-use Rattle.kernel.proofs.Laws.Waits.{below-other, more-below, more-ended, tick-last, tick-timed, tick-none, woken-sized}
+use Rattle.kernel.proofs.Laws.Waits.{woken-sized}
+use Rattle.kernel.proofs.Laws.Ticks.{ticksBelow, onePass, tick-same, below-other, more-below, more-ended, tick-last, tick-timed, tick-none}
 use Rattle.kernel.proofs.Laws.Fits.{ticks-left}
 use Rattle.kernel.proofs.Laws.Edits.{applied-append, gathered-append}
 use Rattle.kernel.proofs.Laws.Answers.{is-carried}
@@ -128,7 +129,7 @@ loop-again-3 c =
     (omega arith, l .inv .1, l .inv .2, e, omega (arith, n), omega arith)
 
 returns-2 : tie.Need-returns-2 Inv-loop μ-loop
-unfolding tickEffect oneMore applied edited gathered withScheduler withClock
+unfolding onePass oneMore applied edited gathered withScheduler withClock
 returns-2 c =
     let a = c .before .before .before .before .before .before .before .args in
     let l = c .before .before .loop in
@@ -140,7 +141,7 @@ returns-2 c =
     let es = ticksBelow 32 (a .self) in
     let e = ap (λ (x : Kernel). withClock x ((a .self .clock + 1) % 4294967296)) y ∙ sym (applied-append (a .self) es clock) in
     let o = m ∙ sym (ap (λ (xs : List ℕ). length xs) (gathered-append (mover endsb) es clock ∙ append-nil (movers endsb es))) in
-    rw is-carried (c .carried .ensures ∙ rw (c .before .before .before .before .wrapping-add-u32 .ensures) (carried-as (a .self) _ _ (es ++ clock) e o))
+    rw is-carried (c .carried .ensures ∙ rw (c .before .before .before .before .wrapping-add-u32 .ensures) (carried-as (a .self) _ _ (es ++ clock) e o) ∙ ap answerOf (sym (tick-same (a .self))))
 
 pub tick-spec : {M : Type 1} → statement M
 unfolding ticksBelow applied gathered withScheduler

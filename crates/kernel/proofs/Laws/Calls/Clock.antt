@@ -1,7 +1,7 @@
 -- Calls 13 to 15: what each does.
 use mathlib.Core.Path.{_≡_, refl, ap, _∙_}
 use mathlib.Core.List.{List, [], _∷_, _++_, append-nil}
-use mathlib.Core.Bool.{Bool, true, false}
+use mathlib.Core.Bool.{Bool, true, false, _&&_, not, and-false}
 use Prim.Native.Nat.{ℕ, zero, suc, _+_, _<_, _≤_}
 use Prim.{tt}
 use native.Mathlib.Omega.{arith}
@@ -19,16 +19,16 @@ use Rattle.waiting.specs.Ticks.{timedb, lastTickb}
 use Rattle.kernel.specs.declared.Kernel.{Kernel}
 use Rattle.kernel.specs.Tables.{threadOf}
 use Rattle.kernel.specs.Sound.{Fit}
-use Rattle.kernel.specs.Edits.{Edit, applied, gathered, mover, anyb, startsb}
+use Rattle.kernel.specs.Edits.{Edit, applied, gathered, mover, anyb, countedBy, counted, startsb}
 use Rattle.kernel.specs.Edits.Cause.{timedOut}
 use Rattle.kernel.specs.Edits.Move.{ends}
 use Rattle.kernel.specs.Edits.Edit.{moves, counts, sets}
 use Rattle.kernel.specs.Edits.Success.{done}
 use Rattle.kernel.specs.Roles.{mayMoveb, mayb, allb}
 use Rattle.kernel.specs.Effects.{oneMore}
-use Rattle.kernel.specs.Clock.{clockEffect, clockSetEffect, tickOf, ticksBelow, tickEffect}
+use Rattle.kernel.specs.Clock.{clockEffect, clockSetEffect}
 use Rattle.kernel.proofs.Laws.Edits
-use Rattle.kernel.proofs.Laws.Waits.{tick-movers, below-other}
+use Rattle.kernel.proofs.Laws.Ticks.{tickOf, ticksBelow, onePass, tick-movers, below-other}
 use Rattle.kernel.proofs.Laws.Fits
 use Rattle.kernel.proofs.Laws.Lines
 use Rattle.kernel.proofs.Laws.Does
@@ -53,14 +53,14 @@ module _ (k : Kernel) (f : Edit → List ℕ) (b : Thread → Bool) (clock : (c 
       let z = ap (λ (v : ℕ). oneIf (b (threadOf k v))) q in omega (arith, one-more n u, ticks-past n u (omega (arith, q)), d, z))
       (λ q. let c = ticks-below n u (omega (arith, l, q)) in omega (arith, one-more n u, c, Lists.count-not-only n u (b (threadOf k n)) q))
 
-  tick-named : gathered f (tickEffect k .edits) ≡ gathered f (ticksBelow 32 k)
-  unfolding tickEffect gathered
+  tick-named : gathered f (onePass k .edits) ≡ gathered f (ticksBelow 32 k)
+  unfolding onePass gathered
   tick-named = Edits.gathered-append f (ticksBelow 32 k) (sets (oneMore (k .clock)) ∷ []) ∙ rw (clock (oneMore (k .clock))) (append-nil (gathered f (ticksBelow 32 k)))
 
-  pub tick-count : (u : ℕ) → u < 32 → count u (gathered f (tickEffect k .edits)) ≡ oneIf (b (threadOf k u))
+  tick-count : (u : ℕ) → u < 32 → count u (gathered f (onePass k .edits)) ≡ oneIf (b (threadOf k u))
   tick-count u l = ap (count u) tick-named ∙ ticks-below 32 u l
 
-  tick-once : (u : ℕ) → count u (gathered f (tickEffect k .edits)) ≤ 1
+  tick-once : (u : ℕ) → count u (gathered f (onePass k .edits)) ≤ 1
   tick-once u = let e = ap (count u) tick-named in by-test (ltb u 32) (λ l. let c = ticks-below 32 u (ltb-true u 32 l) in let m = one-at-most (b (threadOf k u)) in omega (arith, e, c, m)) (λ l. let c = ticks-past 32 u (ltb-false u 32 l) in omega (arith, e, c))
 
 -- ---- the tick of one thread, and of those below n
@@ -88,6 +88,14 @@ below-fits k F (suc n) =
     Effects.fits-append k (ticksBelow n k) (tickOf (threadOf k n) n) (below-fits k F n)
     (rw (← below-other k n n (omega arith)) (tick-fits (applied k (ticksBelow n k)) (Fits.fit-all k F (ticksBelow n k) (below-fits k F n)) n))
 
+-- who is counted by it
+counted-by : (th : Thread) (t : ℕ) → counted (tickOf th t) ≡ onlyIf (timedb th && not (lastTickb th)) t
+unfolding gathered tickOf
+counted-by th t =
+    by-test (lastTickb th)
+    (λ e. rw (e, and-false))
+    (λ e. by-test (timedb th) (λ y. rw (e, y)) (λ y. rw (e, y)))
+
 module _ (k : Kernel) (b c : ℕ) (messages : List ℕ) (caller a : ℕ) where
   pub get-does : Does.Does k caller 13 a b c messages 0 (clockEffect k)
   unfolding clockEffect
@@ -97,10 +105,24 @@ module _ (k : Kernel) (b c : ℕ) (messages : List ℕ) (caller a : ℕ) where
   unfolding clockSetEffect allb mayb Lines.unstartedb
   set-does time = Does.plain Does.none (λ S runs z. Effects.proper-one k (S .fit) 14 a done noWords false (sets time) tt tt refl refl)
 
-  pub tick-does : Does.Does k caller 15 a b c messages (tickRefusal caller) (tickEffect k)
-  unfolding tickEffect allb mayb mayMoveb startsb gathered Lines.unstartedb
+  pub tick-does : Does.Does k caller 15 a b c messages (tickRefusal caller) (onePass k)
+  unfolding onePass allb mayb mayMoveb startsb gathered Lines.unstartedb
   tick-does =
-      Does.plain (tt, tt, tt, tt, tt, tt, refl) (λ S runs z. let es = ticksBelow 32 k in
-      let clock = sets (oneMore (k .clock)) ∷ [] in
-      Effects.proper-all k (S .fit) 15 a (es ++ clock) noWords (Effects.fits-append k es clock (below-fits k (S .fit) 32) ((tt, tt), tt)) (tick-once k (mover anyb) lastTickb (λ i. refl) (λ th t. tick-movers k t th anyb refl))
-      (Edits.all-append (mayb 15 a) es clock (below-all (mayb 15 a) (λ t. refl) (λ t. refl) k 32) refl) (Edits.all-append Lines.unstartedb es clock (below-all Lines.unstartedb (λ t. refl) (λ t. refl) k 32) refl))
+      record {
+        proper = λ S runs z. (let es = ticksBelow 32 k in
+            let clock = sets (oneMore (k .clock)) ∷ [] in
+            Effects.proper-all k (S .fit) 15 a (es ++ clock) noWords (Effects.fits-append k es clock (below-fits k (S .fit) 32) ((tt, tt), tt)) (tick-once k (mover anyb) lastTickb (λ i. refl) (λ th t. tick-movers k t th anyb refl))
+            (Edits.all-append (mayb 15 a) es clock (below-all (mayb 15 a) (λ t. refl) (λ t. refl) k 32) refl) (Edits.all-append Lines.unstartedb es clock (below-all Lines.unstartedb (λ t. refl) (λ t. refl) k 32) refl));
+        role = λ S z. (
+          tt,
+          tt,
+          tt,
+          tt,
+          tt,
+          tt,
+          record {
+            over = λ f y. tick-count k (mover f) lastTickb (λ i. refl) (λ th t. tick-movers k t th f y);
+            less = tick-count k countedBy (λ th. timedb th && not (lastTickb th)) (λ i. refl) counted-by;
+          },
+        );
+      }
