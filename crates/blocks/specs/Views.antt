@@ -1,6 +1,6 @@
 -- The block view: which bytes of a lent pool area are a block's, and what the area is after a write into them.
 use mathlib.Core.Path.{_≡_}
-use mathlib.Core.List.{List, [], _∷_}
+use mathlib.Core.List.{List, []}
 use mathlib.Core.Bool.{Bool, true, _&&_}
 use mathlib.Core.Logic.{_⊎_}
 use Prim.Native.Nat.{ℕ, _+_, _≤_, _<_, min}
@@ -11,7 +11,7 @@ use Rattle.lines.specs.Logic.{if_then_else_}
 use Rattle.lines.specs.Lists.{numbersFrom}
 use Rattle.blocks.specs.declared.pool.Pool.{Pool}
 use Rattle.blocks.specs.declared.view.Extent.{Extent}
-use Rattle.blocks.specs.Pools.{blocksOf, freshPool, usedb, withoutNext, withFree, blockStart}
+use Rattle.blocks.specs.Pools.{freshPool, usedb, withoutNext, withFree, blockStart}
 
 -- rule 10.5: a block is shown where the pool is created, the area is no shorter than the pool, and the block is in use
 unfoldable pub viewedb : Pool → ℕ → ℕ → Bool
@@ -33,11 +33,11 @@ onwards n at = (at .0, n + at .1)
 unfoldable pub written : Pool → ℕ → List ℕ → List ℕ → List ℕ
 written p n bytes area = if viewedb p n (length area) then paste area (blockStart p n) bytes (min (length bytes) (p .block)) else area
 
--- rule 15.8: a pool of 100 bytes in blocks of 16, of which the first three are given
+-- rules 10.5, 15.8: a pool of 100 bytes in blocks of 16, of which the first three are given
 unfoldable pub p8 : Pool
 p8 = withoutNext (withoutNext (withoutNext (freshPool 16 100)))
 
--- rule 15.8: its area, each of whose bytes is its own number
+-- rule 10.5: its area, each of whose bytes is its own number
 unfoldable pub p8Area : List ℕ
 p8Area = numbersFrom 0 100
 
@@ -48,6 +48,9 @@ pub record ViewClaims : Type 0 where
   -- two blocks have no byte in common
   pub apart : (p : Pool) (n m : ℕ) → (n ≡ m → ⊥)
       → (blockStart p n + p .block ≤ blockStart p m) ⊎ (blockStart p m + p .block ≤ blockStart p n)
+  -- the part lies where the extent says
+  pub extent : (p : Pool) (n : ℕ) (area : List ℕ)
+      → viewed p n area ≡ take (extentOf p n (length area) .length) (drop (extentOf p n (length area) .start) area)
   -- the part has block bytes
   pub sized : (p : Pool) (n : ℕ) (area : List ℕ) → viewedb p n (length area) ≡ true → length (viewed p n area) ≡ p .block
   -- a block shows what was written to all of it
@@ -59,10 +62,6 @@ pub record ViewClaims : Type 0 where
       → getD (written p n bytes area) i 0 ≡ getD area i 0
   -- so every other block shows what it showed
   pub others : (p : Pool) (n m : ℕ) (bytes area : List ℕ) → (n ≡ m → ⊥) → viewed p m (written p n bytes area) ≡ viewed p m area
-  -- rule 15.8: 5 blocks; block 2 is bytes 44 to 59
-  pub p8blocks : blocksOf p8 ≡ 5
-  pub p8extent : extentOf p8 2 100 ≡ record { start = 44; length = 16 }
-  pub p8view : viewed p8 2 p8Area ≡ 44 ∷ 45 ∷ 46 ∷ 47 ∷ 48 ∷ 49 ∷ 50 ∷ 51 ∷ 52 ∷ 53 ∷ 54 ∷ 55 ∷ 56 ∷ 57 ∷ 58 ∷ 59 ∷ []
-  -- an area one byte short, a free block, a block out of range, and a block that is released: length 0
+  -- rule 10.5: an area one byte short, a free block, a block out of range, and a block that is released: length 0
   pub p8none : (viewed p8 2 (take 99 p8Area) ≡ []) × (viewed p8 3 p8Area ≡ [])
       × (viewed p8 5 p8Area ≡ []) × (viewed (withFree p8 2) 2 p8Area ≡ [])

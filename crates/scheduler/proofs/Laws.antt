@@ -9,4 +9,3 @@ pub mod Testing
 pub mod Placing
 pub mod Fairness
 pub mod Claims
-pub mod Cases

@@ -5,4 +5,3 @@ pub mod Loops
 pub mod Changes
 pub mod Sound
 pub mod Claims
-pub mod Cases

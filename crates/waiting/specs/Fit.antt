@@ -60,6 +60,21 @@ unheldFitb th h = th .created || (eqb (h .status) 0 && blankFrom 0 (heldWords h)
 unfoldable pub heldFitb : Thread → Held → Bool
 heldFitb th h = statusFitb th h && wordsFitb th h && senderFitb th h && requestFitb th h && unheldFitb th h
 
+-- ---- the same, asked by what the thread does
+-- rules 12.4, 12.7: what a created thread may hold that neither waits nor sleeps: a status other than 0x101 and any words; it is no sender
+-- and asks for no flags
+unfoldable pub restingFitb : Held → Bool
+restingFitb h = not (eqb (h .status) Statuses.waiting) && not (h .sending) && not (h .front) && (eqb (h .request) 0 && eqb (h .option) 0)
+
+-- rule 12.7: what a thread may hold that is not created: all of it is zero
+unfoldable pub heldZerob : Held → Bool
+heldZerob h = eqb (h .status) 0 && blankFrom 0 (h .words) && not (h .sending) && not (h .front) && (eqb (h .request) 0 && eqb (h .option) 0)
+
+-- rules 12.4, 12.7: a thread that waits or sleeps holds 0x101 and zero words, and what it sends or asks for fits its state
+unfoldable pub pausedFitb : Thread → Held → Bool
+pausedFitb th h =
+    pausedb th && eqb (h .status) Statuses.waiting && blankFrom 0 (heldWords h) && senderFitb th h && requestFitb th h
+
 -- ---- what one thread waits for: the object is created, so its number is in range
 -- rule 12.5: a thread may wait on a semaphore of count 0
 unfoldable pub semaphoreWaitb : Semaphore → Bool

@@ -1,10 +1,7 @@
 // Tests of what a thread holds and waits for, and of the tables of objects.
 ghost use mathlib.Core.Path.{_≡_};
-ghost use mathlib.Core.Bool.{true, false, _&&_};
 ghost use lib.Dec.{eqb};
-ghost use Rattle.scheduler.specs.declared.thread.Thread.{Thread};
-ghost use Rattle.scheduler.specs.Threads.{pausedb};
-ghost use Rattle.waiting.specs.Fit.{blankFrom, waitsOnb, heldFitb, semaphoreWaitb, queueWaitb, groupWaitb, poolWaitb, semaphoresFitb, groupsFitb};
+ghost use Rattle.waiting.specs.Fit.{blankFrom, waitsOnb, restingFitb, heldZerob, pausedFitb, semaphoreWaitb, queueWaitb, groupWaitb, poolWaitb, semaphoresFitb, groupsFitb};
 use blocks::pool::Pool;
 use calls::held::Held;
 use calls::status::WAITING;
@@ -53,9 +50,9 @@ pub fn waits_on(th: Thread, state: u8) -> bool
     th.created & (th.state == state)
 }
 
-// Whether a thread waits or sleeps, and what it holds fits its record.
+// Whether a thread waits or sleeps, and may hold this.
 pub fn paused_fits(th: Thread, h: Held) -> bool
-    ensures { λ r. ⌜ r ≡ (pausedb th && heldFitb th h) ⌝ }
+    ensures { λ r. ⌜ r ≡ pausedFitb th h ⌝ }
 {
     if !th.is_paused() {
         return false;
@@ -75,16 +72,16 @@ pub fn paused_fits(th: Thread, h: Held) -> bool
     unsent & unasked
 }
 
-// Whether what a created thread holds fits its record, asked of one that neither waits nor sleeps: its words may be any.
+// Whether a created thread that neither waits nor sleeps may hold this: its words may be any.
 pub fn resting_fits(h: Held) -> bool
-    ensures { λ r. ⌜ ((th : Thread) → th .created ≡ true → pausedb th ≡ false → r ≡ heldFitb th h) ⌝ }
+    ensures { λ r. ⌜ r ≡ restingFitb h ⌝ }
 {
     (h.status != WAITING) & !h.sending & !h.front & ((h.request == 0) & (h.option == 0))
 }
 
-// Whether what an uncreated thread holds fits its record: it is zero.
+// Whether a thread that is not created may hold this: it is zero.
 pub fn unheld_fits(h: Held) -> bool
-    ensures { λ r. ⌜ ((th : Thread) → th .created ≡ false → r ≡ heldFitb th h) ⌝ }
+    ensures { λ r. ⌜ r ≡ heldZerob h ⌝ }
 {
     let words = h.words;
     (h.status == 0)

@@ -199,6 +199,11 @@ module _ (p : Pool) (n : ℕ) (bytes area : List ℕ) where
           (size (written p n bytes area) ∙ ap (λ (l : ℕ). min (p .block) (l - blockStart p m)) kept ∙ sym (size area))
           (λ i h. let z = size (written p n bytes area) in let b : i < p .block = omega (arith, h, z) in read (written p n bytes area) i b ∙ other-kept m ne i b ∙ sym (read area i b))
 
+-- the part is that which the extent says
+extent : (p : Pool) (n : ℕ) (area : List ℕ) → viewed p n area ≡ take (extentOf p n (length area) .length) (drop (extentOf p n (length area) .start) area)
+unfolding extentOf viewed
+extent p n area = by-test (viewedb p n (length area)) (λ v. rw v) (λ v. rw v)
+
 pub sized : (p : Pool) (n : ℕ) (area : List ℕ) → viewedb p n (length area) ≡ true → length (viewed p n area) ≡ p .block
 sized p n area v =
     let h = shown-inside p n (length area) v in
@@ -206,18 +211,16 @@ sized p n area v =
     ap length (viewed-shown p n area v) ∙ length-take-le (p .block) (drop (blockStart p n) area) (omega (arith, h, d))
 
 pub views : ViewClaims
-unfolding viewedb extentOf viewed p8 p8Area blocksOf freeBlocks listing freshPool usedb withoutNext withFree blockStart count oneIf numbersFrom pad
+unfolding viewedb viewed p8 p8Area blocksOf freeBlocks listing freshPool usedb withoutNext withFree blockStart count oneIf numbersFrom pad
 views =
     record {
       inside = inside;
       apart = apart;
+      extent = extent;
       sized = sized;
       same = same;
       kept = kept;
       outside = outside;
       others = λ p n m bytes area. others p n bytes area m;
-      p8blocks = refl;
-      p8extent = refl;
-      p8view = refl;
       p8none = (refl, refl, refl, refl);
     }

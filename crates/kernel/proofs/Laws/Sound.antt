@@ -22,8 +22,8 @@ use Rattle.objects.specs.Groups.{noGroup}
 use Rattle.blocks.specs.Pools.{noPool, poolZerob, poolFitb}
 use Rattle.calls.specs.declared.held.Held.{Held}
 use Rattle.calls.specs.Held.{holding, heldWords, messageOf}
-use Rattle.waiting.proofs.Laws.Fit.{waits-nowhere}
-use Rattle.waiting.specs.Fit.{blankFrom, waitsOnb, sendsb, statusFitb, wordsFitb, senderFitb, requestFitb, unheldFitb, heldFitb, semaphoresFitb, queuesFitb, groupsFitb, poolsFitb}
+use Rattle.waiting.proofs.Laws.Fit.{waits-nowhere, resting, unheld, paused}
+use Rattle.waiting.specs.Fit.{blankFrom, waitsOnb, sendsb, statusFitb, wordsFitb, senderFitb, requestFitb, unheldFitb, heldFitb, restingFitb, heldZerob, pausedFitb, semaphoresFitb, queuesFitb, groupsFitb, poolsFitb}
 use Rattle.kernel.specs.declared.Kernel.{Kernel}
 use Rattle.kernel.specs.Tables.{started, threadOf, heldAt, semaphoreAt, queueAt, groupAt, poolAt}
 use Rattle.kernel.specs.Kinds.{Kind, Object, sizeOf, stateOn, tableOf, objectAt, noObject, recordFitb, waitb}
@@ -92,14 +92,15 @@ module _ (k : Kernel) (t : ℕ) (th : Thread) (e : th ≡ threadOf k t) where
   pub waits-rest : pausedb th ≡ false → waitFitb k t ≡ true
   waits-rest p = waits-none (λ d. waits-nowhere (stateOn d) th (Objects.state-low d) p)
 
-  -- what such a thread holds, and what an uncreated one holds
-  pub resting-read : (h : Held) → h ≡ heldAt k t → (b : Bool)
-      → ((x : Thread) → x .created ≡ true → pausedb x ≡ false → b ≡ heldFitb x h) → th .created ≡ true → pausedb th ≡ false → b ≡ heldFitb (threadOf k t) (heldAt k t)
-  resting-read h d b f made p = f th made p ∙ ap₂ heldFitb e d
+  -- what the thread holds, by what it does
+  pub paused-read : (h : Held) → h ≡ heldAt k t → (b : Bool) → b ≡ pausedFitb th h → pausedb th ≡ true → b ≡ heldFitb (threadOf k t) (heldAt k t)
+  paused-read h d b f p = f ∙ sym (paused h th p) ∙ ap₂ heldFitb e d
 
-  pub unheld-read : (h : Held) → h ≡ heldAt k t → (b : Bool)
-      → ((x : Thread) → x .created ≡ false → b ≡ heldFitb x h) → th .created ≡ false → b ≡ heldFitb (threadOf k t) (heldAt k t)
-  unheld-read h d b f u = f th u ∙ ap₂ heldFitb e d
+  pub resting-read : (h : Held) → h ≡ heldAt k t → (b : Bool) → b ≡ restingFitb h → th .created ≡ true → pausedb th ≡ false → b ≡ heldFitb (threadOf k t) (heldAt k t)
+  resting-read h d b f made p = f ∙ sym (resting h th p made) ∙ ap₂ heldFitb e d
+
+  pub unheld-read : (h : Held) → h ≡ heldAt k t → (b : Bool) → b ≡ heldZerob h → th .created ≡ false → b ≡ heldFitb (threadOf k t) (heldAt k t)
+  unheld-read h d b f u = f ∙ sym (unheld h th u) ∙ ap₂ heldFitb e d
 
   pub waits-object : (d : Kind) (h : Held) (x : Object d) → h ≡ heldAt k t → x ≡ objectAt d k (th .object) → on (stateOn d) true → waitb d h x ≡ waitFitb k t
   waits-object d h x p q w = ap₂ (waitb d) p (q ∙ ap (λ (r : Thread). objectAt d k (r .object)) e) ∙ sym (on-kind k t d (kept (stateOn d) true w))

@@ -13,7 +13,7 @@ use Rattle.scheduler.proofs.Laws.States.{paused-made}
 use Rattle.calls.specs.declared.held.Held.{Held}
 use Rattle.calls.specs.Held.{noWords, heldWords, messageOf}
 use Rattle.calls.specs.Statuses as Statuses
-use Rattle.waiting.specs.Fit.{blankFrom, waitsOnb, sendsb, statusFitb, wordsFitb, senderFitb, requestFitb, unheldFitb, heldFitb}
+use Rattle.waiting.specs.Fit.{blankFrom, waitsOnb, sendsb, statusFitb, wordsFitb, senderFitb, requestFitb, unheldFitb, heldFitb, restingFitb, heldZerob, pausedFitb}
 
 -- who does not wait or sleep waits on nothing
 pub waits-nowhere : (n : ℕ) (th : Thread) → 4 < n → pausedb th ≡ false → waitsOnb n th ≡ false
@@ -91,8 +91,8 @@ module _ (h : Held) where
     unfolding heldFitb statusFitb wordsFitb implies
     rest = rw (p, sender-off th (waits-nowhere 5 th (omega arith) p), request-off th (waits-nowhere 7 th (omega arith) p), and-true)
 
-    pub resting : th .created ≡ true → heldFitb th h ≡ (other && not (h .sending) && not (h .front) && unasked)
-    unfolding unheldFitb
+    pub resting : th .created ≡ true → heldFitb th h ≡ restingFitb h
+    unfolding unheldFitb restingFitb
     resting made = rest ∙ rw made (go other (h .sending) (h .front) unasked)
       where
         go : (o s f u : Bool) → (o && (not s && not f) && u && true) ≡ (o && not s && not f && u)
@@ -102,8 +102,9 @@ module _ (h : Held) where
         go true false false false = refl
         go false s f u = refl
 
-  pub unheld : (th : Thread) → th .created ≡ false → heldFitb th h ≡ (eqb (h .status) 0 && blank && not (h .sending) && not (h .front) && unasked)
-  unfolding unheldFitb pausedb waitsb sleepsb
+  -- ---- who is not created
+  pub unheld : (th : Thread) → th .created ≡ false → heldFitb th h ≡ heldZerob h
+  unfolding unheldFitb heldZerob pausedb waitsb sleepsb
   unheld th u =
       rest th (rw u)
       ∙ rw (u, blank-held)
@@ -129,9 +130,13 @@ module _ (h : Held) (th : Thread) (p : pausedb th ≡ true) where
   abbrev waits : Bool
   waits = eqb (h .status) Statuses.waiting
 
-  paused : heldFitb th h ≡ (waits && (h .sending || blank h) && senderFitb th h && requestFitb th h)
-  unfolding heldFitb statusFitb wordsFitb unheldFitb implies
-  paused = rw (p, and-true waits, paused-made th p, blank-held h, and-true)
+  pub paused : heldFitb th h ≡ pausedFitb th h
+  unfolding heldFitb statusFitb wordsFitb unheldFitb implies pausedFitb
+  paused = rw (p, and-true waits, paused-made th p, and-true)
+
+  parts : pausedFitb th h ≡ (waits && (h .sending || blank h) && senderFitb th h && requestFitb th h)
+  unfolding pausedFitb
+  parts = rw (p, blank-held h)
 
   on : (n : ℕ) → th .state ≡ n → waitsOnb n th ≡ true
   unfolding waitsOnb
@@ -141,13 +146,13 @@ module _ (h : Held) (th : Thread) (p : pausedb th ≡ true) where
   unfolding waitsOnb
   off n s = ap (λ (b : Bool). th .created && b) (ne-eqb (th .state) n s) ∙ and-false (th .created)
 
-  pub paused-status : waits ≡ false → heldFitb th h ≡ false
-  paused-status e = paused ∙ rw e
+  pub paused-status : waits ≡ false → pausedFitb th h ≡ false
+  paused-status e = parts ∙ rw e
 
   module _ (e : waits ≡ true) where
-    pub paused-queue : th .state ≡ 5 → ((h .sending || unsent) && unasked h) ≡ heldFitb th h
+    pub paused-queue : th .state ≡ 5 → ((h .sending || unsent) && unasked h) ≡ pausedFitb th h
     paused-queue s =
-        sym (paused ∙ rw (e, sender-on h th (on 5 s), request-off h th (off 7 (λ z. omega (arith, z, s))), go (h .sending) (h .front) (blank h)))
+        sym (parts ∙ rw (e, sender-on h th (on 5 s), request-off h th (off 7 (λ z. omega (arith, z, s))), go (h .sending) (h .front) (blank h)))
       where
         go : (s f b : Bool) → ((s || b) && (s || not f)) ≡ (s || (b && not s && not f))
         go true f b = refl
@@ -164,8 +169,8 @@ module _ (h : Held) (th : Thread) (p : pausedb th ≡ true) where
         go false f true = refl
         go false f false = refl
 
-    pub paused-flags : th .state ≡ 7 → (unsent && leb (h .option) 3) ≡ heldFitb th h
-    paused-flags s = sym (paused ∙ rw (e, unsending (λ z. omega (arith, z, s)), request-on h th (on 7 s)))
+    pub paused-flags : th .state ≡ 7 → (unsent && leb (h .option) 3) ≡ pausedFitb th h
+    paused-flags s = sym (parts ∙ rw (e, unsending (λ z. omega (arith, z, s)), request-on h th (on 7 s)))
 
-    pub paused-other : (th .state ≡ 5 → ⊥) → (th .state ≡ 7 → ⊥) → (unsent && unasked h) ≡ heldFitb th h
-    paused-other s z = sym (paused ∙ rw (e, unsending s, request-off h th (off 7 z)))
+    pub paused-other : (th .state ≡ 5 → ⊥) → (th .state ≡ 7 → ⊥) → (unsent && unasked h) ≡ pausedFitb th h
+    paused-other s z = sym (parts ∙ rw (e, unsending s, request-off h th (off 7 z)))

@@ -1,4 +1,4 @@
-use mathlib.Core.Path.{_≡_, refl, sym, ap₂, _∙_}
+use mathlib.Core.Path.{_≡_, refl, sym, _∙_}
 use mathlib.Core.Bool.{Bool, true, _&&_}
 use Prim.Native.Nat.{ℕ, _≤_, _+_, _-_}
 use native.Mathlib.Omega.{arith}
@@ -24,7 +24,7 @@ use Rattle.kernel.specs.Kinds.Kind.{semaphore, queue, group, pool}
 use Rattle.kernel.specs.Sound.{waitFitb, soundb}
 use Rattle.kernel.proofs.Laws.Reads.{read-inside, test-more}
 use Rattle.kernel.proofs.Laws.Objects.{by-kind}
-use Rattle.kernel.proofs.Laws.Sound.{waits-none, waits-rest, waits-object, past-objects, outside, one-more, none-more, past-more, and-rest, resting-read, unheld-read}
+use Rattle.kernel.proofs.Laws.Sound.{waits-none, waits-rest, waits-object, past-objects, outside, one-more, none-more, past-more, and-rest, paused-read, resting-read, unheld-read}
 use Rattle.kernel.proofs.Kernel.is_sound.Statement.{statement}
 use Rattle.kernel.proofs.Kernel.is_sound.Tie as tie
 
@@ -104,7 +104,7 @@ module _ (k : At tie.After-paused-fits) where
   paused : {w : Bool} → w ≡ allBelow (t turn + 1) (waitFitb (self turn)) → Tested (self turn) (turn .before .loop .held && k .paused-fits .result) w (t turn + 1)
   paused =
       let p = sym (k .before .before .before .is-paused .ensures) ∙ k .before .before .if1 .taken in
-      next turn (and-rest (k .paused-fits .ensures) p ∙ ap₂ heldFitb (thread turn _) (holds turn _))
+      next turn (paused-read (self turn) (t turn) _ (thread turn _) _ (holds turn _) _ (k .paused-fits .ensures) p)
 
 pub is-sound-spec : {M : Type 1} → statement M
 unfolding allBelow soundb queuesFitb poolsFitb emptyb semaphoreAt queueAt groupAt poolAt
