@@ -1,5 +1,5 @@
--- Laws of what is printed of records: one record more of a tape.
-use mathlib.Core.Path.{_≡_, refl, sym, ap, ap₂, _∙_}
+-- One record more of a tape: the tables after it, and the text with its own behind that of the records before it.
+use mathlib.Core.Path.{_≡_, refl, sym, ap, ap₂, subst, _∙_}
 use mathlib.Core.List.{List, [], _∷_, _++_, append-nil, append-assoc}
 use Prim.Native.Nat.{ℕ, suc, _+_, _<_}
 use native.Mathlib.Omega.{arith}
@@ -10,8 +10,12 @@ use Rattle.calls.specs.declared.call.Request.{Request}
 use Rattle.tape.specs.Tapes.{noRequest, countOf, recordAt, recordsOf}
 use Rattle.tape.proofs.Laws.Tapes.{length-records, record-in}
 use Rattle.kernel.specs.declared.Kernel.{Kernel}
+use Rattle.kernel.specs.declared.Answer.{Answer}
 use Rattle.kernel.specs.General.{call}
 use Rattle.kernel.specs.Runs.{afterRecord, afterRecords}
+use Rattle.kernel.proofs.Laws.Runs.{after-more}
+use Rattle.output.specs.Texts.{Put}
+use Rattle.output.proofs.Laws.Texts.{put-append}
 use Rattle.inspect.specs.Inspect.{recordText, recordsText}
 
 records-last : (i : ℕ) (k : Kernel) (ms : List ℕ) (rs : List Request) (r : Request)
@@ -26,8 +30,7 @@ records-last i k ms (x ∷ rs) r =
     ∙ sym (append-assoc here more (recordText (length rs + suc i) r last))
     ∙ ap (λ (n : ℕ). here ++ more ++ recordText n r last) (let e : length rs + suc i ≡ suc (length rs) + i = omega arith in e)
 
--- one record more of a tape
-pub records-more : (k : Kernel) (ms bytes : List ℕ) (i : ℕ) → i < countOf bytes
+records-more : (k : Kernel) (ms bytes : List ℕ) (i : ℕ) → i < countOf bytes
     → recordsText 0 k ms (take (i + 1) (recordsOf bytes))
     ≡ recordsText 0 k ms (take i (recordsOf bytes)) ++ recordText i (recordAt bytes i) (call (afterRecords k ms (take i (recordsOf bytes))) (recordAt bytes i) ms)
 records-more k ms bytes i h =
@@ -37,3 +40,19 @@ records-more k ms bytes i h =
     (ap (recordsText 0 k ms) (take-suc (recordsOf bytes) i noRequest (omega (arith, n, h)))
     ∙ records-last 0 k ms (take i (recordsOf bytes)) (getD (recordsOf bytes) i noRequest)
     ∙ ap₂ (λ (n : ℕ) (r : Request). recordsText 0 k ms (take i (recordsOf bytes)) ++ recordText n r (call (afterRecords k ms (take i (recordsOf bytes))) r ms)) l (record-in bytes i noRequest h))
+
+-- the text of i records of a tape is in a buffer, and that of the next, which is carried out on the tables after them, goes in behind it
+module _ (k : Kernel) (ms bytes : List ℕ) {i : ℕ} {tables : Kernel} {r : Request} {x : Answer} (h : i < countOf bytes)
+    (before : tables ≡ afterRecords k ms (take i (recordsOf bytes))) (here : r ≡ recordAt bytes i) (answered : x ≡ call tables r ms) where
+  same : x ≡ call (afterRecords k ms (take i (recordsOf bytes))) (recordAt bytes i) ms
+  same = answered ∙ (λ j. call (before j) (here j) ms)
+
+  pub next-tables : x .kernel ≡ afterRecords k ms (take (i + 1) (recordsOf bytes))
+  unfolding afterRecord
+  next-tables = ap (λ (y : Answer). y .kernel) same ∙ sym (after-more k ms bytes i h)
+
+  pub put-record : {a b c : List ℕ} {at p q : ℕ} → Put a at (recordsText 0 k ms (take i (recordsOf bytes))) b p → Put b p (recordText i r x) c q
+      → Put a at (recordsText 0 k ms (take (i + 1) (recordsOf bytes))) c q
+  put-record {a} {b} {c} {at} {p} {q} u v =
+      rw (records-more k ms bytes i h)
+      (put-append u (subst (λ (y : Answer). Put b p (recordText i (recordAt bytes i) y) c q) same (subst (λ (t : Request). Put b p (recordText i t x) c q) here v)))

@@ -1,4 +1,4 @@
-use mathlib.Core.Path.{_≡_, refl, sym, ap, _∙_, subst}
+use mathlib.Core.Path.{_≡_, refl, _∙_}
 use Prim.Native.Nat.{_<_, _≤_, _-_}
 use native.Mathlib.Omega.{arith}
 use borrow.Author.Needs.{needs}
@@ -6,15 +6,11 @@ use lib.ListN.{length, take}
 use lib.Seq.{take-all}
 use Rattle.output.specs.Texts.{Put}
 use Rattle.output.proofs.Laws.Texts.{put-append, put-start}
-use Rattle.tape.specs.Tapes.{countOf, recordAt, recordsOf}
+use Rattle.tape.specs.Tapes.{countOf, recordsOf}
 use Rattle.tape.proofs.Laws.Tapes.{length-records, count-most}
-use Rattle.kernel.specs.declared.Answer.{Answer}
-use Rattle.kernel.specs.General.{call}
-use Rattle.kernel.specs.Runs.{afterRecord, afterRecords}
-use Rattle.kernel.proofs.Laws.Runs.{after-more}
-use Rattle.calls.specs.declared.call.Request.{Request}
+use Rattle.kernel.specs.Runs.{afterRecords}
 use Rattle.inspect.specs.Inspect.{recordText, recordsText, callsText}
-use Rattle.inspect.proofs.Laws.Inspect.{records-more}
+use Rattle.inspect.proofs.Laws.Inspect.{next-tables, put-record}
 use Rattle.inspect.proofs.put_calls.Statement.{statement}
 use Rattle.inspect.proofs.put_calls.Tie as tie
 
@@ -34,23 +30,19 @@ add-i c =
     record { fits = omega (arith, c .before .before .before .before .before .before .before .before .before .before .before .before .before .before .before .before .before .loop-test .taken, c .before .before .before .before .before .before .before .before .before .before .before .before .before .before .before .before .before .before .before .before .before .before .before .before .count .ensures, most) }
 
 loop-again : tie.Need-loop-again Inv-loop μ-loop
-unfolding recordText afterRecord
+unfolding recordText
 loop-again c =
     let a = c .before .before .before .before .before .before .before .before .before .before .before .before .before .before .before .before .before .before .before .before .before .before .before .before .before .before .before .before .args in
     let l = c .before .before .before .before .before .before .before .before .before .before .before .before .before .before .before .before .before .before .loop in
     let k = c .before .before .before .before .before .before .before .before .before .before .before .before .before .before .before .before .before .before .before .before .before .before .before .start .result in
     let ms = a .words .now in
     let bytes = a .bytes .now in
-    let x = c .before .before .before .before .before .before .before .before .before .before .before .before .before .before .before .carried-out .result in
-    let n : l .i < countOf bytes = omega (arith, c .before .before .before .before .before .before .before .before .before .before .before .before .before .before .before .before .before .loop-test .taken, c .before .before .before .before .before .before .before .before .before .before .before .before .before .before .before .before .before .before .before .before .before .before .before .before .count .ensures) in
-    let e = c .before .before .before .before .before .before .before .before .before .before .before .before .before .before .before .carried-out .ensures ∙ (λ j. call (l .inv .2 j) (c .before .before .before .before .before .before .before .before .before .before .before .before .before .before .before .before .record-at .ensures j) ms) in
-    let p = put-append (put-append (c .before .before .before .before .before .before .before .before .before .before .before .put-call .ensures) (c .before .before .before .before .before .before .put-result .ensures)) (c .before .before .put-tables2 .ensures) in
-    let q = subst (λ (r : Request). Put (l .buf) (l .to) (recordText (l .i) r x) (c .before .before .put-tables2 .last .0) (c .before .before .put-tables2 .result)) (c .before .before .before .before .before .before .before .before .before .before .before .before .before .before .before .before .record-at .ensures) p in
-    let s = subst (λ (y : Answer). Put (l .buf) (l .to) (recordText (l .i) (recordAt bytes (l .i)) y) (c .before .before .put-tables2 .last .0) (c .before .before .put-tables2 .result)) e q in (
+    let n : l .i < countOf bytes = omega (arith, c .before .before .before .before .before .before .before .before .before .before .before .before .before .before .before .before .before .loop-test .taken, c .before .before .before .before .before .before .before .before .before .before .before .before .before .before .before .before .before .before .before .before .before .before .before .before .count .ensures) in (
       omega (arith, c .before .before .before .before .before .before .before .before .before .before .before .before .before .before .before .before .before .loop-test .taken),
       c .before .before .put-tables2 .kept .0 ∙ c .before .before .before .before .before .before .put-result .kept .0 ∙ c .before .before .before .before .before .before .before .before .before .before .before .put-call .kept .0 ∙ l .inv .1,
-      ap (λ (y : Answer). y .kernel) e ∙ sym (after-more k ms bytes (l .i) n),
-      rw (records-more k ms bytes (l .i) n) (put-append (l .inv .3) s),
+      next-tables k ms bytes n (l .inv .2) (c .before .before .before .before .before .before .before .before .before .before .before .before .before .before .before .before .record-at .ensures) (c .before .before .before .before .before .before .before .before .before .before .before .before .before .before .before .carried-out .ensures),
+      put-record k ms bytes n (l .inv .2) (c .before .before .before .before .before .before .before .before .before .before .before .before .before .before .before .before .record-at .ensures) (c .before .before .before .before .before .before .before .before .before .before .before .before .before .before .before .carried-out .ensures) (l .inv .3)
+          (put-append (put-append (c .before .before .before .before .before .before .before .before .before .before .before .put-call .ensures) (c .before .before .before .before .before .before .put-result .ensures)) (c .before .before .put-tables2 .ensures)),
     )
 
 same-length : tie.Need-same-length Inv-loop μ-loop

@@ -1,4 +1,4 @@
-use mathlib.Core.Path.{_≡_, refl, sym, ap, _∙_, subst}
+use mathlib.Core.Path.{_≡_, refl, sym, _∙_}
 use Prim.Native.Nat.{_<_, _≤_, _-_}
 use native.Mathlib.Omega.{arith}
 use borrow.Author.Needs.{needs}
@@ -8,12 +8,9 @@ use Rattle.output.specs.Texts.{Put}
 use Rattle.output.proofs.Laws.Texts.{put-append, put-start}
 use Rattle.tape.specs.Tapes.{countOf, recordsOf}
 use Rattle.tape.proofs.Laws.Tapes.{length-records}
-use Rattle.kernel.specs.declared.Answer.{Answer}
-use Rattle.kernel.specs.General.{call}
-use Rattle.kernel.specs.Runs.{afterRecord, afterRecords}
-use Rattle.kernel.proofs.Laws.Runs.{after-more}
+use Rattle.kernel.specs.Runs.{afterRecords}
 use Rattle.replay.specs.Replay.{answerText, recordsText, callsText}
-use Rattle.replay.proofs.Laws.Replay.{records-more}
+use Rattle.replay.proofs.Laws.Replay.{next-tables, put-record}
 use Rattle.replay.proofs.put_calls.Statement.{statement}
 use Rattle.replay.proofs.put_calls.Tie as tie
 
@@ -28,19 +25,18 @@ unfolding recordsText afterRecords
 loop-holds c = (omega arith, refl, refl, put-start (c .before .before .put-count .ensures))
 
 loop-again : tie.Need-loop-again Inv-loop μ-loop
-unfolding answerText afterRecord
+unfolding answerText
 loop-again c =
     let a = c .before .before .before .before .before .before .before .before .before .before .before .before .before .before .before .before .before .before .before .args in
     let l = c .before .before .before .before .before .before .before .before .loop in
+    let k = c .before .before .before .before .before .before .before .before .before .before .before .before .before .before .start .result in
     let ms = a .words .now in
     let bytes = a .bytes .now in
-    let n : l .i < countOf bytes = omega (arith, c .before .before .before .before .before .before .before .loop-test .taken, c .before .before .before .before .before .before .before .before .before .before .before .before .before .before .before .count .ensures) in
-    let e = c .before .before .before .before .before .carried-out .ensures ∙ (λ j. call (l .inv .2 j) (c .before .before .before .before .before .before .record-at .ensures j) ms) in (
+    let n : l .i < countOf bytes = omega (arith, c .before .before .before .before .before .before .before .loop-test .taken, c .before .before .before .before .before .before .before .before .before .before .before .before .before .before .before .count .ensures) in (
       omega arith,
       c .before .before .put-answer .kept .0 ∙ l .inv .1,
-      ap (λ (x : Answer). x .kernel) e ∙ sym (after-more (c .before .before .before .before .before .before .before .before .before .before .before .before .before .before .start .result) ms bytes (l .i) n),
-      rw (records-more (c .before .before .before .before .before .before .before .before .before .before .before .before .before .before .start .result) ms bytes (l .i) n)
-          (put-append (l .inv .3) (subst (λ (x : Answer). Put (l .buf) (l .to) (answerText x) (c .before .before .put-answer .last .0) (c .before .before .put-answer .result)) e (c .before .before .put-answer .ensures))),
+      next-tables k ms bytes n (l .inv .2) (c .before .before .before .before .before .before .record-at .ensures) (c .before .before .before .before .before .carried-out .ensures),
+      put-record k ms bytes n (l .inv .2) (c .before .before .before .before .before .before .record-at .ensures) (c .before .before .before .before .before .carried-out .ensures) (l .inv .3) (c .before .before .put-answer .ensures),
     )
 
 same-length : tie.Need-same-length Inv-loop μ-loop
