@@ -15,7 +15,7 @@ use Rattle.codec.specs.Bytes.{bytesOf}
 use Rattle.codec.specs.Restored.{All, Fits}
 use Rattle.apachimo.specs.Library.{startBlock, runRefusal, runBlock, runReplies}
 use Rattle.claims.specs.Lists.{Made, next, after}
-use Rattle.claims.specs.Rolls.{Waits, Claim}
+use Rattle.claims.specs.Rolls.{Waits, NoPrioritiseOrDelete, Claim}
 use Rattle.boundary.specs.Calls.{Lent, Passed, blockAfterCalls, blockReplies, repliesTo, madeOf, repliedList}
 
 -- rules 1.2, 14.4: a start leaves a block that is taken, with sound tables in which nothing is created
@@ -42,12 +42,13 @@ pub record Runs (b tape : List ℕ) (most : ℕ) (out : List ℕ) : Type 0 where
   pub written : runBlock b tape most (length out) ≡ bytesOf (after (kernelOf b) (madeOf tape most))
   pub replies : runReplies b tape most out ≡ repliedList out 0 (repliesTo (kernelOf b) (madeOf tape most))
 
--- rules 13.3, 13.4: first come, first served, for a user of the library: the claim holds of the tables of the block, and the tables and
--- replies of calls through the block, or of a run, are those of which the claim speaks
+-- rules 13.3, 13.4, 14.8, 14.9: first come, first served, for a user of the library: the claim holds of every list of calls through the block, and of
+-- every run, in which no prioritise or delete of the object is done, and the tables, block and replies are those of which it speaks
 pub record LibraryClaim (b : List ℕ) (d : Kind) (n : ℕ) (ahead : List ℕ) (t : ℕ) : Type 0 where
-  pub claim : Claim (kernelOf b) d n ahead t
-  pub calls : (ms : List Made) → All Passed ms → Calls b ms
-  pub runs : (tape : List ℕ) → All Byte tape → (most : ℕ) (out : List ℕ) → runRefusal b tape most (length out) ≡ 0 → Runs b tape most out
+  pub calls : (ms : List Made) → All Passed ms → NoPrioritiseOrDelete d n (kernelOf b) ms → Claim (kernelOf b) d n ahead t ms × Calls b ms
+  pub runs : (tape : List ℕ) → All Byte tape → (most : ℕ) (out : List ℕ) → runRefusal b tape most (length out) ≡ 0
+      → NoPrioritiseOrDelete d n (kernelOf b) (madeOf tape most)
+      → Claim (kernelOf b) d n ahead t (madeOf tape most) × Runs b tape most out
 
 -- ---- the claims
 pub record BoundaryClaims : Type 0 where

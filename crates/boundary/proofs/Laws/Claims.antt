@@ -35,7 +35,7 @@ use Rattle.codec.proofs.Laws.Restored.{blockClaims}
 use Rattle.apachimo.specs.Library.{blockRefusal, startBlock, callReply, callBlock, runRefusal, runBlock, runReplies}
 use Rattle.apachimo.proofs.Laws.Library.{block-sized}
 use Rattle.claims.specs.Lists.{Made, answer, next, after}
-use Rattle.claims.proofs.Laws.Claims as Rolls
+use Rattle.claims.proofs.Laws.Claims.{firstComeFirstServed}
 use Rattle.boundary.specs.Calls.{Lent, Passed, blockAfterCall, blockAfterCalls, blockReplies, repliesTo, madeOf}
 use Rattle.boundary.specs.Claims.{Starts, Calls, Runs, BoundaryClaims}
 use Rattle.boundary.proofs.Laws.Fits.{fits-sound, started-fits, call-fits}
@@ -196,5 +196,9 @@ boundaryClaims =
       calls = calls;
       runs = runs;
       forLibrary = λ b L s d n ahead t W.
-          record { claim = Rolls.claim (kernelOf b) (fits-sound (kernelOf b) (lent-fits b L) s) d n ahead t W; calls = calls b L; runs = runs b L };
+          (let first = firstComeFirstServed (kernelOf b) (fits-sound (kernelOf b) (lent-fits b L) s) d n ahead t W in
+          record {
+            calls = λ ms f calm. (first ms calm, calls b L ms f);
+            runs = λ tape f most out r calm. (first (madeOf tape most) calm, runs b L tape f most out r);
+          });
     }

@@ -28,17 +28,17 @@ use Rattle.calls.specs.Calls.{knownCall}
 use Rattle.calls.specs.declared.call.Decoded.{Decoded}
 use Rattle.calls.specs.declared.call.Decoded.the-variants.{Known, Unknown}
 use Rattle.calls.proofs.Laws.Calls.{by-number}
-use Rattle.waiting.specs.Ticks.{timedb, lastTickb}
+use Rattle.waiting.specs.Ticks.{timedb, atZerob}
 use Rattle.kernel.specs.declared.Kernel.{Kernel}
 use Rattle.kernel.specs.Tables.{threadOf, runnerOf, heldAt, queueAt, groupAt, poolAt}
 use Rattle.kernel.specs.Kinds.{Kind, Object, stateOn, placeOf, objectAt, noObject}
 use Rattle.kernel.specs.Kinds.Kind.{semaphore, queue, group, pool}
-use Rattle.kernel.specs.Edits.{Cause, Effect}
-use Rattle.kernel.specs.Edits.Cause.{served, deleted}
-use Rattle.kernel.specs.Edits.Edit.{counts, stores}
+use Rattle.kernel.specs.Edits.{Cause, applied, Effect}
+use Rattle.kernel.specs.Edits.Cause.{served, deleted, timedOut}
+use Rattle.kernel.specs.Edits.Edit.{stores}
 use Rattle.kernel.specs.Effects.{gives, begins, endsEach, oneMore, storeEffect, closeEffect, removeEffect, rankEffect, serveEffect, waitedb, giveEffect, counting, amountOf, oneLess, takeEffect}
 use Rattle.kernel.specs.Threads.{keeps, clears, createEffect, deleteEffect, resumeEffect, suspendEffect, terminateEffect, restEffect, relinquishEffect, sleepEffect, abortEffect, priorityEffect, preemptionEffect, stateEffect, wordsEffect}
-use Rattle.kernel.specs.Clock.{clockEffect, clockSetEffect, tickOf, ticksBelow, tickEffect}
+use Rattle.kernel.specs.Clock.{clockEffect, clockSetEffect, threadsWith, countsEach, ticksTaken, timeouts, tickEffect}
 use Rattle.kernel.specs.Semaphores.{semaphoreGetEffect, putEffect}
 use Rattle.kernel.specs.Queues.{sendEffect, pastEffect, receiveEffect, flushEffect}
 use Rattle.kernel.specs.Groups.{setOrEffect, setEffect, flagsGetEffect}
@@ -246,16 +246,16 @@ module _ (k : Kernel) where
   unfolding clockSetEffect
   set-words time h = (h, tt)
 
-  below-words : (n : ℕ) → All EditWords (ticksBelow n k)
-  unfolding ticksBelow tickOf
-  below-words zero = tt
-  below-words (suc n) =
-      all-append EditWords (ticksBelow n k) (tickOf (threadOf k n) n) (below-words n)
-      (by-choice (All EditWords) (lastTickb (threadOf k n)) _ _ (λ e. (no-words, tt)) (λ e. by-choice (All EditWords) (timedb (threadOf k n)) (counts n ∷ []) [] (λ f. (tt, tt)) (λ f. tt)))
+  counts-words : (ts : List ℕ) → All EditWords (countsEach ts)
+  unfolding countsEach
+  counts-words [] = tt
+  counts-words (t ∷ ts) = (tt, counts-words ts)
 
   tick-words : EffectWords (tickEffect k)
-  unfolding tickEffect
-  tick-words = all-append EditWords (ticksBelow threads k) _ (below-words threads) (more-word _, tt)
+  unfolding tickEffect ticksTaken timeouts
+  tick-words =
+      all-append EditWords (ticksTaken k) _ (counts-words (threadsWith timedb k))
+      (all-append EditWords (timeouts (applied k (ticksTaken k))) _ (each-words k timedOut noWords (threadsWith atZerob (applied k (ticksTaken k))) no-words) (more-word _, tt))
 
 -- ---- objects
 module _ (k : Kernel) (W : Worded k) where
