@@ -1,18 +1,16 @@
 -- What the program `inspect` prints of a tape: the tables before the first call, and for each call the call itself, its result and the tables
 -- after it.
-use mathlib.Core.List.{List, [], _∷_, _++_}
-use Prim.Native.Nat.{ℕ, suc}
+use mathlib.Core.List.{List, _++_}
+use Prim.Native.Nat.{ℕ}
 use Prim.Native.Char.{code}
 use Rattle.lines.specs.Logic.{if_then_else_}
 use Rattle.calls.specs.declared.call.Request.{Request}
 use Rattle.tape.specs.Tapes.{refusedb, recordsOf, messagesOf}
-use Rattle.kernel.specs.declared.Kernel.{Kernel}
 use Rattle.kernel.specs.declared.Answer.{Answer}
 use Rattle.kernel.specs.Tables.{started}
-use Rattle.kernel.specs.General.{call}
-use Rattle.kernel.specs.Runs.{afterRecord}
 use Rattle.output.specs.Texts.{ascii}
 use Rattle.text.specs.Texts.{fieldText, threadText, separated, refusedText}
+use Rattle.text.specs.Records.{recordsText}
 use Rattle.inspect.specs.Tables.{tablesText}
 
 -- a call's four arguments
@@ -37,14 +35,9 @@ resultText status next ended words = answerText status next ended ++ ascii " " +
 unfoldable pub recordText : ℕ → Request → Answer → List ℕ
 recordText i r a = callText i r ++ resultText (a .status) (a .next .0) (a .ended) (a .words) ++ tablesText (a .kernel)
 
--- a list of records, the first of them record i, each carried out by the general call on the tables that the last one handed back
-unfoldable pub recordsText : ℕ → Kernel → List ℕ → List Request → List ℕ
-recordsText i k messages [] = []
-recordsText i k messages (r ∷ rs) = recordText i r (call k r messages) ++ recordsText (suc i) (afterRecord k messages r) messages rs
-
 -- the tables with nothing created, and then the records
 unfoldable pub callsText : List ℕ → List Request → List ℕ
-callsText messages rs = tablesText started ++ recordsText 0 started messages rs
+callsText messages rs = tablesText started ++ recordsText recordText 0 started messages rs
 
 -- what is printed of a tape
 unfoldable pub inspectText : List ℕ → List ℕ

@@ -1,3 +1,4 @@
 pub mod Texts
 pub mod Threads
 pub mod Objects
+pub mod Records

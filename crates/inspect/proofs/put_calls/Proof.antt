@@ -9,13 +9,14 @@ use Rattle.output.proofs.Laws.Texts.{put-append, put-start}
 use Rattle.tape.specs.Tapes.{countOf, recordsOf}
 use Rattle.tape.proofs.Laws.Tapes.{length-records, count-most}
 use Rattle.kernel.specs.Runs.{afterRecords}
-use Rattle.inspect.specs.Inspect.{recordText, recordsText, callsText}
-use Rattle.inspect.proofs.Laws.Inspect.{next-tables, put-record}
+use Rattle.inspect.specs.Inspect.{recordText, callsText}
+use Rattle.text.specs.Records.{recordsText}
+use Rattle.text.proofs.Laws.Records.{next-tables, put-record}
 use Rattle.inspect.proofs.put_calls.Statement.{statement}
 use Rattle.inspect.proofs.put_calls.Tie as tie
 
 abbrev Inv-loop : tie.InvT-loop
-Inv-loop buf₀ at bytes words n k₀ to₀ i₀ buf k to i = (i ≤ n) × (length buf ≡ length buf₀) × (k ≡ afterRecords k₀ words (take i (recordsOf bytes))) × Put buf₀ to₀ (recordsText 0 k₀ words (take i (recordsOf bytes))) buf to
+Inv-loop buf₀ at bytes words n k₀ to₀ i₀ buf k to i = (i ≤ n) × (length buf ≡ length buf₀) × (k ≡ afterRecords k₀ words (take i (recordsOf bytes))) × Put buf₀ to₀ (recordsText recordText 0 k₀ words (take i (recordsOf bytes))) buf to
 
 abbrev μ-loop : tie.MeasureT-loop
 μ-loop buf₀ at bytes words n k₀ to₀ i₀ buf k to i = n - i
@@ -41,7 +42,7 @@ loop-again c =
       omega (arith, c .before .before .before .before .before .before .before .before .before .before .before .before .before .before .before .before .before .loop-test .taken),
       c .before .before .put-tables2 .kept .0 ∙ c .before .before .before .before .before .before .put-result .kept .0 ∙ c .before .before .before .before .before .before .before .before .before .before .before .put-call .kept .0 ∙ l .inv .1,
       next-tables k ms bytes n (l .inv .2) (c .before .before .before .before .before .before .before .before .before .before .before .before .before .before .before .before .record-at .ensures) (c .before .before .before .before .before .before .before .before .before .before .before .before .before .before .before .carried-out .ensures),
-      put-record k ms bytes n (l .inv .2) (c .before .before .before .before .before .before .before .before .before .before .before .before .before .before .before .before .record-at .ensures) (c .before .before .before .before .before .before .before .before .before .before .before .before .before .before .before .carried-out .ensures) (l .inv .3)
+      put-record k ms bytes n (l .inv .2) (c .before .before .before .before .before .before .before .before .before .before .before .before .before .before .before .before .record-at .ensures) (c .before .before .before .before .before .before .before .before .before .before .before .before .before .before .before .carried-out .ensures) recordText (l .inv .3)
           (put-append (put-append (c .before .before .before .before .before .before .before .before .before .before .before .put-call .ensures) (c .before .before .before .before .before .before .put-result .ensures)) (c .before .before .put-tables2 .ensures)),
     )
 

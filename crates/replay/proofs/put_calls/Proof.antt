@@ -1,5 +1,5 @@
 use mathlib.Core.Path.{_≡_, refl, sym, _∙_}
-use Prim.Native.Nat.{_<_, _≤_, _-_}
+use Prim.Native.Nat.{ℕ, _<_, _≤_, _-_}
 use native.Mathlib.Omega.{arith}
 use borrow.Author.Needs.{needs}
 use lib.ListN.{length, take}
@@ -8,14 +8,17 @@ use Rattle.output.specs.Texts.{Put}
 use Rattle.output.proofs.Laws.Texts.{put-append, put-start}
 use Rattle.tape.specs.Tapes.{countOf, recordsOf}
 use Rattle.tape.proofs.Laws.Tapes.{length-records}
+use Rattle.kernel.specs.declared.Answer.{Answer}
+use Rattle.calls.specs.declared.call.Request.{Request}
 use Rattle.kernel.specs.Runs.{afterRecords}
-use Rattle.replay.specs.Replay.{answerText, recordsText, callsText}
-use Rattle.replay.proofs.Laws.Replay.{next-tables, put-record}
+use Rattle.replay.specs.Replay.{answerText, callsText}
+use Rattle.text.specs.Records.{recordsText}
+use Rattle.text.proofs.Laws.Records.{next-tables, put-record}
 use Rattle.replay.proofs.put_calls.Statement.{statement}
 use Rattle.replay.proofs.put_calls.Tie as tie
 
 abbrev Inv-loop : tie.InvT-loop
-Inv-loop buf₀ at bytes words n k₀ to₀ i₀ t11 buf k to i = (i ≤ n) × (length buf ≡ length buf₀) × (k ≡ afterRecords k₀ words (take i (recordsOf bytes))) × Put buf₀ to₀ (recordsText k₀ words (take i (recordsOf bytes))) buf to
+Inv-loop buf₀ at bytes words n k₀ to₀ i₀ t11 buf k to i = (i ≤ n) × (length buf ≡ length buf₀) × (k ≡ afterRecords k₀ words (take i (recordsOf bytes))) × Put buf₀ to₀ (recordsText (λ (j : ℕ) (r : Request) (a : Answer). answerText a) 0 k₀ words (take i (recordsOf bytes))) buf to
 
 abbrev μ-loop : tie.MeasureT-loop
 μ-loop buf₀ at bytes words n k₀ to₀ i₀ t11 buf k to i = n - i
@@ -36,7 +39,7 @@ loop-again c =
       omega arith,
       c .before .before .put-answer .kept .0 ∙ l .inv .1,
       next-tables k ms bytes n (l .inv .2) (c .before .before .before .before .before .before .record-at .ensures) (c .before .before .before .before .before .carried-out .ensures),
-      put-record k ms bytes n (l .inv .2) (c .before .before .before .before .before .before .record-at .ensures) (c .before .before .before .before .before .carried-out .ensures) (l .inv .3) (c .before .before .put-answer .ensures),
+      put-record k ms bytes n (l .inv .2) (c .before .before .before .before .before .before .record-at .ensures) (c .before .before .before .before .before .carried-out .ensures) (λ (j : ℕ) (r : Request) (x : Answer). answerText x) (l .inv .3) (c .before .before .put-answer .ensures),
     )
 
 same-length : tie.Need-same-length Inv-loop μ-loop
