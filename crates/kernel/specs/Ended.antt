@@ -3,7 +3,7 @@
 use mathlib.Core.Path.{_≡_}
 use mathlib.Core.List.{List, [], _∷_}
 use mathlib.Core.Bool.{Bool, true, _&&_, _||_, not}
-use Prim.Native.Nat.{ℕ}
+use Prim.Native.Nat.{ℕ, _-_}
 use lib.ListN.{length}
 use lib.Dec.{eqb}
 use Rattle.numbers.specs.Numbers.{threads}
@@ -30,6 +30,7 @@ use Rattle.calls.specs.Services.{
   blockAllocate,
 }
 use Rattle.calls.specs.Statuses as Statuses
+use Rattle.waiting.specs.Ticks.{timedb}
 use Rattle.kernel.specs.declared.Kernel.{Kernel}
 use Rattle.kernel.specs.Tables.{threadOf, heldAt}
 use Rattle.kernel.specs.Refusals.{Reason, refusals}
@@ -84,13 +85,15 @@ pub record Wakes (n : ℕ) (k x : Kernel) (t : ℕ) : Type 0 where
   pub status : heldAt x t .status ≡ endStatus n (threadOf k t) (heldAt k t)
   pub words : unservedb n ≡ true → heldWords (heldAt x t) ≡ noWords
 
--- rule 5.3: thread t, which waits or sleeps on: in its state, on its object, and holding what it held
-pub record Stays (k x : Kernel) (t : ℕ) : Type 0 where
+-- rules 5.3, 6.10: thread t, which waits or sleeps on after a call of number n with a status: in its state, on its object, and holding what
+-- it held; a tick that is done takes one from its ticks where it is timed, and no other call does
+pub record Stays (n status : ℕ) (k x : Kernel) (t : ℕ) : Type 0 where
   pub state : threadOf x t .state ≡ threadOf k t .state
   pub object : threadOf x t .object ≡ threadOf k t .object
   pub held : heldAt x t ≡ heldAt k t
+  pub ticks : threadOf x t .ticks ≡ threadOf k t .ticks - oneIf (eqb n tick && eqb status Statuses.success && timedb (threadOf k t))
 
--- rules 2.8, 5.3 to 5.6: what is claimed
+-- rules 2.8, 5.3 to 5.6, 6.10: what is claimed
 pub record EndedClaims : Type 0 where
   -- rule 2.8: a thread is in the list of ended waits once where its wait has ended with a status, and else not
   pub listed : (k : Kernel) → Sound k → (q : Request) (messages : List ℕ) (t : ℕ)
@@ -101,9 +104,10 @@ pub record EndedClaims : Type 0 where
   -- rules 5.4 to 5.6: what each of them is and holds then
   pub wakes : (k : Kernel) → Sound k → (q : Request) (messages : List ℕ) (t : ℕ)
       → endedb k (call k q messages .kernel) t ≡ true → Wakes (q .number) k (call k q messages .kernel) t
-  -- rule 5.3: whoever waited or slept before the call, and does so after it, waits or sleeps on
+  -- rules 5.3, 6.10: whoever waited or slept before the call, and does so after it, waits or sleeps on
   pub stays : (k : Kernel) → Sound k → (q : Request) (messages : List ℕ) (t : ℕ)
-      → pausedb (threadOf k t) ≡ true → pausedb (threadOf (call k q messages .kernel) t) ≡ true → Stays k (call k q messages .kernel) t
+      → pausedb (threadOf k t) ≡ true → pausedb (threadOf (call k q messages .kernel) t) ≡ true
+      → Stays (q .number) (call k q messages .status) k (call k q messages .kernel) t
   -- rules 2.8, 6.4: whoever waited or slept before the call, and is terminated after it, is the thread that a terminate names
   pub stops : (k : Kernel) → Sound k → (q : Request) (messages : List ℕ) (t : ℕ)
       → pausedb (threadOf k t) ≡ true → threadOf (call k q messages .kernel) t .state ≡ terminated → (q .number ≡ threadTerminate) × (q .a ≡ t)

@@ -101,6 +101,7 @@ Empties d k n e = (t : ℕ) → Taker d k n t → e .edits ≡ []
 
 -- rules 6.10, 13.2: a tick: whoever has no tick left then times out, and every other timed wait or sleep has one tick less
 pub record Ticks (k : Kernel) (e : Effect) : Type 0 where
+  pub done : e .success ≡ Success.done
   pub over : (c : Move → Bool) → c (ends timedOut noWords) ≡ true → (t : ℕ) → t < threads
       → count t (movers c (e .edits)) ≡ oneIf (lastTickb (threadOf k t))
   pub less : (t : ℕ) → t < threads → count t (counted (e .edits)) ≡ oneIf (timedb (threadOf k t) && not (lastTickb (threadOf k t)))

@@ -1,7 +1,7 @@
 -- The waits that a call ends, from what its edits do to each thread.
 use mathlib.Core.Path.{_≡_, refl, sym, ap, _∙_, subst}
-use mathlib.Core.List.{List, [], _∷_}
-use mathlib.Core.Bool.{Bool, true, false, _&&_, _||_, not, and-false}
+use mathlib.Core.List.{List, [], _∷_, _++_}
+use mathlib.Core.Bool.{Bool, true, false, _&&_, _||_, not, and-true, and-false}
 use Prim.Native.Nat.{ℕ, zero, suc, _+_, _<_, _≤_, min}
 use Prim.{Unit, tt}
 use native.Mathlib.Omega.{arith}
@@ -21,19 +21,20 @@ use Rattle.calls.specs.declared.call.Request.{Request}
 use Rattle.calls.specs.declared.held.Held.{Held}
 use Rattle.calls.specs.Held.{noWords, holding, heldWords}
 use Rattle.calls.specs.Callers.{oneOf}
-use Rattle.calls.specs.Services.{threadResume, threadSuspend, threadPriorityChange, threadPreemptionChange, semaphoreGet, queueSend, queueReceive, eventFlagsGet, blockAllocate}
+use Rattle.calls.specs.Services.{threadResume, threadSuspend, threadPriorityChange, threadPreemptionChange, tick, semaphoreGet, queueSend, queueReceive, eventFlagsGet, blockAllocate}
 use Rattle.calls.specs.Statuses as Statuses
-use Rattle.waiting.specs.Ticks.{timeoutStatus}
+use Rattle.waiting.specs.Ticks.{timedb, timeoutStatus, lastTickb}
 use Rattle.kernel.specs.declared.Kernel.{Kernel}
 use Rattle.kernel.specs.declared.Answer.{Answer}
 use Rattle.kernel.specs.Tables.{threadOf, heldAt}
 use Rattle.kernel.specs.Answers.{Outcome, answerOf, refused}
 use Rattle.kernel.specs.Kinds.Kind.{semaphore, queue, group, pool}
 use Rattle.kernel.specs.Sound.{soundb, Sized, Sound}
-use Rattle.kernel.specs.Edits.{Cause, statusBy, Move, recordBy, heldBy, Edit, applied, movers, anyb, counted, endsb, startsb, Effect, carriedOut}
+use Rattle.kernel.specs.Edits.{Cause, statusBy, Move, recordBy, heldBy, Edit, applied, gathered, movers, anyb, countedBy, counted, endsb, startsb, Success, statusOf, Effect, carriedOut}
 use Rattle.kernel.specs.Edits.Cause.{served, deleted, timedOut, aborted}
 use Rattle.kernel.specs.Edits.Move.{ends, starts, stops, turns}
 use Rattle.kernel.specs.Roles.{rowOf, limitOf, mayMoveb, mayb, allb}
+use Rattle.kernel.specs.Uses.{Role}
 use Rattle.kernel.specs.Refusals.{refusals}
 use Rattle.kernel.specs.General.{step, unsound, call}
 use Rattle.kernel.specs.Ended.{endedb, waitCall, lastReason, unservedb, endStatus, Wakes, Stays, EndedClaims}
@@ -229,6 +230,15 @@ unaltered-all c n a f (e ∷ es) m =
     (and-left (mayb n a e) _ m))
     (unaltered-all c n a f es (and-right (mayb n a e) _ m))
 
+-- only a tick takes ticks
+uncounted : (n a u : ℕ) → eqb n tick ≡ false → (es : List Edit) → allb (mayb n a) es ≡ true → count u (counted es) ≡ 0
+unfolding gathered count allb mayb
+uncounted n a u y [] m = refl
+uncounted n a u y (e ∷ es) m =
+    let more = uncounted n a u y es (and-right (mayb n a e) _ m) in
+    Edits.by-edit (λ e. mayb n a e ≡ true → count u (countedBy e ++ counted es) ≡ 0) (λ t m z. more) (λ t g z. more) (λ t z. never z y) (λ d i z. more) (λ d i x z. more) (λ i z. more) e
+    (and-left (mayb n a e) _ m)
+
 blank-words : (c : Cause) (words : List ℕ) → Fits.Blank c words → unservedOf c ≡ true → words ≡ noWords
 unfolding unservedOf
 blank-words (served d n) words b u = never u refl
@@ -324,12 +334,40 @@ module _ (k : Kernel) (S : Sound k) (n a : ℕ) (e : Effect) (P : Does.Proper k 
       let was = sym (paused-seen (threadOf (W .at) u)) ∙ ap pausedb (W .kept .seen) ∙ paused-seen (threadOf k u) ∙ p in
       sym (paused-seen (threadOf x u)) ∙ ap pausedb (moved-seen W) ∙ paused-seen (recordBy (W .move) (threadOf (W .at) u)) ∙ W .is ∙ unstarted (W .move) (threadOf (W .at) u) (W .was) was
 
-  stays : pausedb (threadOf k u) ≡ true → pausedb (threadOf x u) ≡ true → Stays k x u
-  unfolding Fits.seen
-  stays p q =
-      by-mover
-      (λ z. let K = still z in record { state = ap (λ (t : Thread). t .state) (K .seen); object = ap (λ (t : Thread). t .object) (K .seen); held = K .held })
-      (λ W. never q (moved-not-paused W p))
+  -- and loses a tick only by a tick, where it is timed
+  module _ (b c : ℕ) (messages : List ℕ) (R : Role k n a b c messages e) (p : pausedb (threadOf k u) ≡ true) where
+    counted-here : count u (movers anyb (e .edits)) ≡ 0 → count u (counted (e .edits)) ≡ oneIf (eqb n tick && timedb (threadOf k u))
+    unfolding oneIf
+    counted-here z =
+        let th = threadOf k u in
+        by-test (eqb n tick)
+        (λ y. let T = Does.when (R .6) y in
+        let small = States.created-small (k .scheduler) (S .fit .steady) u (States.paused-made th p) in
+        by-test (lastTickb th)
+        (λ q. absurd (let v = T .over anyb refl u small ∙ ap oneIf q in omega (arith, v, z)))
+        (λ q. T .less u small ∙ ap oneIf (ap (λ (v : Bool). timedb th && not v) q ∙ and-true (timedb th) ∙ sym (ap (λ (v : Bool). v && timedb th) y))))
+        (λ y. uncounted n a u y (e .edits) (P .may) ∙ sym (ap (λ (v : Bool). oneIf (v && timedb th)) y))
+
+    tick-done : (eqb n tick && eqb (carriedOut k e .status) 0) ≡ eqb n tick
+    unfolding carriedOut statusOf
+    tick-done =
+        by-test (eqb n tick)
+        (λ y. ap (λ (s : Success). eqb n tick && eqb (statusOf s) 0) (Does.when (R .6) y .done) ∙ and-true (eqb n tick))
+        (λ y. rw y)
+
+    stays : pausedb (threadOf x u) ≡ true → Stays n (carriedOut k e .status) k x u
+    unfolding Fits.seen
+    stays q =
+        by-mover
+        (λ z. let K = still z in
+        let o = counted-here z ∙ ap (λ (v : Bool). oneIf (v && timedb (threadOf k u))) (sym tick-done) in
+        record {
+          state = ap (λ (t : Thread). t .state) (K .seen);
+          object = ap (λ (t : Thread). t .object) (K .seen);
+          held = K .held;
+          ticks = (let t = K .ticks in omega (arith, t, o));
+        })
+        (λ W. never q (moved-not-paused W p))
 
   -- who waited and is terminated moved by a terminate that names it
   stops-by : pausedb (threadOf k u) ≡ true → threadOf x u .state ≡ terminated → (n ≡ 5) × (a ≡ u)
@@ -359,10 +397,13 @@ unfolding refused endedb
 wakes-by k S n a b c messages o (Does.refuses s z is) u = subst (λ (r : Outcome). endedb k (r .kernel) u ≡ true → Wakes n k (r .kernel) u) (sym is) (λ q. never q (over-self (threadOf k u)))
 wakes-by k S n a b c messages o (Does.carries e is P role) u = subst (λ (r : Outcome). endedb k (r .kernel) u ≡ true → Wakes n k (r .kernel) u) (sym is) (wakes k S n a e P u)
 
-stays-by : (k : Kernel) → Sound k → (n a b c : ℕ) (messages : List ℕ) (o : Outcome) → Does.Step k n a b c messages o → (u : ℕ) → pausedb (threadOf k u) ≡ true → pausedb (threadOf (o .kernel) u) ≡ true → Stays k (o .kernel) u
-unfolding refused
-stays-by k S n a b c messages o (Does.refuses s z is) u p = subst (λ (r : Outcome). pausedb (threadOf (r .kernel) u) ≡ true → Stays k (r .kernel) u) (sym is) (λ q. record { state = refl; object = refl; held = refl })
-stays-by k S n a b c messages o (Does.carries e is P role) u p = subst (λ (r : Outcome). pausedb (threadOf (r .kernel) u) ≡ true → Stays k (r .kernel) u) (sym is) (stays k S n a e P u p)
+stays-by : (k : Kernel) → Sound k → (n a b c : ℕ) (messages : List ℕ) (o : Outcome) → Does.Step k n a b c messages o → (u : ℕ) → pausedb (threadOf k u) ≡ true → pausedb (threadOf (o .kernel) u) ≡ true → Stays n (o .status) k (o .kernel) u
+unfolding refused oneIf
+stays-by k S n a b c messages o (Does.refuses s z is) u p =
+    subst (λ (r : Outcome). pausedb (threadOf (r .kernel) u) ≡ true → Stays n (r .status) k (r .kernel) u) (sym is)
+    (λ q. record { state = refl; object = refl; held = refl; ticks = rw (z, and-false) (omega arith) })
+stays-by k S n a b c messages o (Does.carries e is P role) u p =
+    subst (λ (r : Outcome). pausedb (threadOf (r .kernel) u) ≡ true → Stays n (r .status) k (r .kernel) u) (sym is) (stays k S n a e P u b c messages role p)
 
 stops-step : (k : Kernel) → Sound k → (n a b c : ℕ) (messages : List ℕ) (o : Outcome) → Does.Step k n a b c messages o → (u : ℕ) → pausedb (threadOf k u) ≡ true → threadOf (o .kernel) u .state ≡ terminated → (n ≡ 5) × (a ≡ u)
 unfolding refused
@@ -401,9 +442,9 @@ module _ (k : Kernel) (q : Request) (messages : List ℕ) where
   unfolding answerOf
   call-wakes S t = subst (λ (r : Answer). endedb k (r .kernel) t ≡ true → Wakes (q .number) k (r .kernel) t) (call-is S) (wakes-by k S (q .number) _ (q .b) (q .c) messages _ (Services.step-does k q messages S) t)
 
-  call-stays : Sound k → (t : ℕ) → pausedb (threadOf k t) ≡ true → pausedb (threadOf (call k q messages .kernel) t) ≡ true → Stays k (call k q messages .kernel) t
+  call-stays : Sound k → (t : ℕ) → pausedb (threadOf k t) ≡ true → pausedb (threadOf (call k q messages .kernel) t) ≡ true → Stays (q .number) (call k q messages .status) k (call k q messages .kernel) t
   unfolding answerOf
-  call-stays S t p = subst (λ (r : Answer). pausedb (threadOf (r .kernel) t) ≡ true → Stays k (r .kernel) t) (call-is S) (stays-by k S (q .number) _ (q .b) (q .c) messages _ (Services.step-does k q messages S) t p)
+  call-stays S t p = subst (λ (r : Answer). pausedb (threadOf (r .kernel) t) ≡ true → Stays (q .number) (r .status) k (r .kernel) t) (call-is S) (stays-by k S (q .number) _ (q .b) (q .c) messages _ (Services.step-does k q messages S) t p)
 
   call-stops : Sound k → (t : ℕ) → pausedb (threadOf k t) ≡ true → threadOf (call k q messages .kernel) t .state ≡ terminated → (q .number ≡ 5) × (q .a ≡ t)
   unfolding answerOf limitOf

@@ -121,6 +121,7 @@ module _ (k : Kernel) (b c : ℕ) (messages : List ℕ) (caller a : ℕ) where
           tt,
           tt,
           record {
+            done = refl;
             over = λ f y. tick-count k (mover f) lastTickb (λ i. refl) (λ th t. tick-movers k t th f y);
             less = tick-count k countedBy (λ th. timedb th && not (lastTickb th)) (λ i. refl) counted-by;
           },
