@@ -16,13 +16,10 @@ use Rattle.tape.specs.Replies.{refusal, replySize}
 use Rattle.tape.specs.Tapes.{refusedb, countOf, recordsOf, messagesOf}
 use Rattle.numbers.specs.Numbers.{nobody}
 use Rattle.kernel.specs.declared.Kernel.{Kernel}
-use Rattle.kernel.specs.declared.Answer.{Answer}
 use Rattle.kernel.specs.declared.run.Ran.{Ran}
 use Rattle.kernel.specs.Tables.{started}
 use Rattle.kernel.specs.Sound.{soundb}
 use Rattle.kernel.specs.Claims.{doneb}
-use Rattle.kernel.specs.Answers.{answerOf}
-use Rattle.kernel.specs.General.{step, unsound, call}
 use Rattle.kernel.specs.Runs.{replyOf, ran, ranReplies}
 use Rattle.kernel.proofs.Laws.Claims as General
 use Rattle.kernel.proofs.Laws.Sound.{passes, started-sound}
@@ -98,10 +95,8 @@ starts b h =
 -- ---- one call
 -- a call that is not carried out hands the tables back as they are
 refused-same : (k : Kernel) (m : Made) → doneb (answer k m .status) ≡ false → next k m ≡ k
-unfolding next answer call answerOf unsound
-refused-same k m =
-    by-choice (λ (a : Answer). doneb (a .status) ≡ false → a .kernel ≡ k) (soundb k) (answerOf (step k (m .request) (m .messages))) (unsound k)
-    (λ e d. General.claims .refusedSame k (m .request) (m .messages) d .kernel) (λ e d. refl)
+unfolding next answer
+refused-same k m d = General.claims .refusedSame k (m .request) (m .messages) d .kernel
 
 module _ (b : List ℕ) (L : Lent b) (m : Made) where
   taken : eqb (blockRefusal b) 0 ≡ true

@@ -2,14 +2,14 @@
 use mathlib.Core.Path.{refl}
 use mathlib.Core.List.{List, [], _∷_, _++_}
 use mathlib.Core.Bool.{Bool, false}
-use Prim.Native.Nat.{ℕ, zero, suc, _+_, _-_, min}
+use Prim.Native.Nat.{ℕ, _+_, _-_, min}
 use Prim.{tt}
 use native.Mathlib.Omega.{arith}
 use native.Mathlib.Nat.{mod-lt}
 use lib.ListN.{take, drop}
 use lib.Bits.{bitOr, bitXor, or-lt, and-le-l}
 use lib.Dec.{eqb, ltb}
-use Rattle.numbers.specs.Numbers.{threads, messageWords, slots}
+use Rattle.numbers.specs.Numbers.{messageWords, slots}
 use Rattle.lines.proofs.Laws.Logic.{by-choice}
 use Rattle.lines.proofs.Laws.Lines.{length-pad}
 use Rattle.scheduler.specs.declared.thread.Thread.{Thread}

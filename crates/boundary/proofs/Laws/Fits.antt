@@ -77,8 +77,13 @@ fits-worded k F =
 
 pub fits-sound : (k : Kernel) → Fits k → soundb k ≡ true → Sound k
 fits-sound k F e =
-    Tested.tested k (F .scheduler .threads .size) (F .held .size)
-    (by-kind (λ d. length (tableOf d k) ≡ sizeOf d) (F .semaphores .size) (F .queues .size) (F .groups .size) (F .pools .size)) e
+    Tested.tested k
+    (record {
+      records = F .scheduler .threads .size;
+      held = F .held .size;
+      objects = by-kind (λ d. length (tableOf d k) ≡ sizeOf d) (F .semaphores .size) (F .queues .size) (F .groups .size) (F .pools .size);
+    })
+    e
 
 -- ---- slots: those in use are below a bound, those behind them zero
 slots-bytes : (xs : List ℕ) (n m bound : ℕ) → length xs ≡ m → below bound (take n xs) ≡ true → bound ≤ 256 → allBelow m (λ i. ltb i n || eqb (getD xs i 0) 0) ≡ true → All Byte xs
@@ -271,5 +276,5 @@ call-fits k F m p =
     let messages = m .messages in
     by-choice (λ (a : Answer). Fits (a .kernel)) (soundb k) (answerOf (step k q messages)) (unsound k)
     (λ e. let S = fits-sound k F e in
-    sound-fits (step k q messages .kernel) (General.claims .stepSound k S q messages) (step-words k (fits-worded k F) q messages p))
+    sound-fits (step k q messages .kernel) (General.step-sound k S q messages) (step-words k (fits-worded k F) q messages p))
     (λ e. F)

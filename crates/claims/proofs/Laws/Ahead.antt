@@ -5,7 +5,7 @@ use mathlib.Core.Bool.{Bool, true}
 use Prim.Native.Nat.{ℕ, _<_}
 use native.Mathlib.Omega.{arith}
 use lib.Dec.{eqb}
-use borrow.Author.Tests.{eq-eqb, ne-eqb, ltb-true}
+use borrow.Author.Tests.{eq-eqb, ne-eqb}
 use Rattle.lines.specs.Lists.{filter, count, less}
 use Rattle.lines.proofs.Laws.Logic.{by-test, by-eq}
 use Rattle.lines.proofs.Laws.Lists

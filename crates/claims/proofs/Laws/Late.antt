@@ -1,5 +1,5 @@
 -- Nobody who comes later is served while a thread waits before them.
-use mathlib.Core.Path.{_≡_, refl, sym, ap, _∙_}
+use mathlib.Core.Path.{_≡_, sym, ap, _∙_}
 use mathlib.Core.List.{List, [], _∷_, _++_}
 use mathlib.Core.Bool.{Bool, true, false, _&&_}
 use Prim.Native.Nat.{ℕ, _<_}
@@ -9,11 +9,11 @@ use lib.ListN.{length}
 use borrow.Author.Tests.{eqb-true, ltb-true}
 use Rattle.lines.specs.Logic.{oneIf}
 use Rattle.lines.specs.Lists.{filter, onlyIf, count, first, Begins}
-use Rattle.lines.proofs.Laws.Logic.{by-test, by-eq, never, and-left, and-right, and-in}
+use Rattle.lines.proofs.Laws.Logic.{by-test, by-eq, never, and-right, and-in}
 use Rattle.lines.proofs.Laws.Lists
 use Rattle.lines.proofs.Laws.Less
 use Rattle.scheduler.specs.Threads.{readyb}
-use Rattle.scheduler.specs.Orders.{lineAt, firstAt}
+use Rattle.scheduler.specs.Orders.{firstAt}
 use Rattle.kernel.proofs.Laws.Objects
 use Rattle.kernel.proofs.Laws.Fits
 use Rattle.kernel.proofs.Laws.Does

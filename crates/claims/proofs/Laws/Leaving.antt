@@ -5,12 +5,11 @@ use mathlib.Core.Bool.{Bool, true, false, _&&_, _||_}
 use Prim.Native.Nat.{ℕ, _<_}
 use native.Mathlib.Omega.{arith}
 use lib.Dec.{eqb}
-use lib.ListN.{getD, set}
 use lib.Seq.{getD-set-same}
 use borrow.Author.Tests.{eqb-true, eq-eqb, ne-eqb, ltb-true}
 use Rattle.lines.specs.Logic.{if_then_else_, oneIf}
 use Rattle.lines.specs.Lists.{count, first, Begins}
-use Rattle.lines.proofs.Laws.Logic.{by-test, by-eq, by-choice, never, and-left, and-right, or-rest}
+use Rattle.lines.proofs.Laws.Logic.{by-test, by-eq, by-choice, and-left, and-right, or-rest}
 use Rattle.lines.proofs.Laws.Lists
 use Rattle.lines.proofs.Laws.Less
 use Rattle.scheduler.specs.declared.thread.Thread.{Thread}

@@ -5,11 +5,9 @@ use mathlib.Core.Bool.{Bool, true, false, _&&_, _||_}
 use Prim.Native.Nat.{ℕ, _<_}
 use native.Mathlib.Omega.{arith}
 use lib.Dec.{eqb}
-use lib.ListN.{getD, set}
-use lib.Seq.{getD-set-same}
 use borrow.Author.Tests.{eqb-true, ltb-true, eq-eqb}
 use Rattle.lines.specs.Logic.{if_then_else_, implies}
-use Rattle.lines.specs.Lists.{count, without, Begins, less}
+use Rattle.lines.specs.Lists.{count, without, less}
 use Rattle.lines.proofs.Laws.Logic.{by-test, by-eq, by-choice, never, and-left, and-right, and-in, or-rest}
 use Rattle.lines.proofs.Laws.Lists
 use Rattle.lines.proofs.Laws.Less
@@ -18,9 +16,7 @@ use Rattle.scheduler.specs.Threads.{onQueue, placedb, inState}
 use Rattle.scheduler.specs.Orders.{lineAt, firstAt}
 use Rattle.scheduler.proofs.Laws.States
 use Rattle.calls.specs.declared.held.Held.{Held}
-use Rattle.calls.specs.Held.{noHeld, holding, heldWords}
 use Rattle.scheduler.specs.Threads.{finishedb}
-use Rattle.calls.specs.Statuses as Statuses
 use Rattle.kernel.proofs.Laws.Edits
 use Rattle.kernel.proofs.Laws.Objects
 use Rattle.kernel.proofs.Laws.Fits
@@ -29,10 +25,10 @@ use Rattle.kernel.proofs.Laws.Lines
 use Rattle.kernel.proofs.Laws.Does
 use Rattle.kernel.proofs.Laws.Does.{Shape, Proper}
 use Rattle.kernel.specs.declared.Kernel.{Kernel}
-use Rattle.kernel.specs.Tables.{threadOf, heldAt, withScheduler, withHeld}
+use Rattle.kernel.specs.Tables.{threadOf, heldAt}
 use Rattle.kernel.specs.Kinds.{Kind, sizeOf, stateOn, placeOf, objectAt, createdb}
 use Rattle.kernel.specs.Sound.{Fit, Sound}
-use Rattle.kernel.specs.Edits.{statusBy, Move, heldBy, Edit, edited, applied, gathered, movers, counted, startsb, leavesb, Success, statusOf, Effect, carriedOut}
+use Rattle.kernel.specs.Edits.{Move, Edit, gathered, movers, counted, startsb, leavesb, Success, statusOf, Effect, carriedOut}
 use Rattle.kernel.specs.Edits.Cause.{served}
 use Rattle.kernel.specs.Edits.Move.{ends, starts, stops, turns}
 use Rattle.kernel.specs.Edits.Edit.{moves}
@@ -43,7 +39,7 @@ use Rattle.kernel.specs.Effects.{does}
 use Rattle.kernel.specs.Threads.{terminateEffect, abortEffect}
 use Rattle.kernel.specs.Uses.{Taker, rolledb, givenWords, Role}
 use Rattle.claims.specs.Lists.{Made, answer, next}
-use Rattle.claims.specs.Rolls.{Entry, names, rest, each, unnamed, ticked, onb, givesb, takesb, prioritisesOrDeletesb, succeedsb, strikeOut, rolled, rollOf, lastsb, Waits, startRoll, Left, Ends, Kept}
+use Rattle.claims.specs.Rolls.{Entry, names, rest, each, unnamed, ticked, onb, givesb, takesb, prioritisesOrDeletesb, succeedsb, strikeOut, rolled, rollOf, lastsb, Waits, startRoll}
 use Rattle.claims.proofs.Laws.Steps.{target, next-sound, by-step}
 use Rattle.claims.proofs.Laws.Members
 use Rattle.claims.proofs.Laws.Serving
