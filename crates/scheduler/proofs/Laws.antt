@@ -9,3 +9,4 @@ pub mod Testing
 pub mod Placing
 pub mod Fairness
 pub mod Claims
+pub mod Cases

@@ -5,3 +5,4 @@ pub mod Loops
 pub mod Changes
 pub mod Sound
 pub mod Claims
+pub mod Cases
