@@ -365,6 +365,7 @@ static inline apachimo_reply tx_semaphore_get(apachimo_board *board,
                                wait, 0, 0);
 }
 
+/* Refused with TX_CEILING_EXCEEDED at the largest count, 0xFFFFFFFF. */
 static inline apachimo_reply tx_semaphore_put(apachimo_board *board,
                                               uint32_t caller,
                                               uint32_t semaphore)

@@ -10,6 +10,7 @@ use Rattle.scheduler.specs.Threads.{suspended, pausedb, finishedb}
 use Rattle.objects.specs.declared.semaphore.Semaphore.{Semaphore}
 use Rattle.objects.specs.declared.queue.Queue.{Queue}
 use Rattle.objects.specs.declared.group.Group.{Group}
+use Rattle.objects.specs.Semaphores.{largestCount}
 use Rattle.objects.specs.Queues.{emptyb, roomb, sizesFitb}
 use Rattle.objects.specs.Groups.{metb}
 use Rattle.blocks.specs.declared.pool.Pool.{Pool}
@@ -123,9 +124,11 @@ semaphoreGetRefusal x wait caller =
     (firstOf (unless (mayWaitb wait caller) Statuses.waitError)
     (unless (ltb 0 wait || ltb 0 (x .count)) Statuses.noInstance))
 
--- 19 put, 21 prioritise: 0C
-unfoldable pub semaphoreRefusal : Semaphore → ℕ
-semaphoreRefusal x = unless (x .created) Statuses.semaphoreError
+-- 19 put: 0C 21
+unfoldable pub putRefusal : Semaphore → ℕ
+putRefusal x =
+    firstOf (unless (x .created) Statuses.semaphoreError)
+    (unless (ltb (x .count) largestCount) Statuses.ceilingExceeded)
 
 -- 20 ceiling put: 0C 22 21
 unfoldable pub ceilingRefusal : Semaphore → ℕ → ℕ
@@ -133,6 +136,10 @@ ceilingRefusal x ceiling =
     firstOf (unless (x .created) Statuses.semaphoreError)
     (firstOf (unless (ltb 0 ceiling) Statuses.invalidCeiling)
     (unless (ltb (x .count) ceiling) Statuses.ceilingExceeded))
+
+-- 21 prioritise: 0C
+unfoldable pub semaphoreRefusal : Semaphore → ℕ
+semaphoreRefusal x = unless (x .created) Statuses.semaphoreError
 
 -- ---- queues: n is the number, q its record
 -- 22 create: 09 05 13

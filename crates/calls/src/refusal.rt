@@ -1,6 +1,6 @@
 // For each call the first reason that refuses it, in the order of the table of refusals; 0 where there is none.
 ghost use mathlib.Core.Path.{_≡_};
-ghost use Rattle.calls.specs.Chains.{unless, firstOf, createRefusal, deleteRefusal, resumeRefusal, suspendRefusal, terminateRefusal, resetRefusal, threadOnlyRefusal, abortRefusal, priorityRefusal, preemptionRefusal, tickRefusal, readRefusal, semaphoreCreateRefusal, semaphoreDeleteRefusal, semaphoreGetRefusal, semaphoreRefusal, ceilingRefusal, queueCreateRefusal, queueDeleteRefusal, sendRefusal, receiveRefusal, queueRefusal, groupCreateRefusal, groupDeleteRefusal, setRefusal, getRefusal, poolCreateRefusal, poolDeleteRefusal, allocateRefusal, releaseRefusal, poolRefusal};
+ghost use Rattle.calls.specs.Chains.{unless, firstOf, createRefusal, deleteRefusal, resumeRefusal, suspendRefusal, terminateRefusal, resetRefusal, threadOnlyRefusal, abortRefusal, priorityRefusal, preemptionRefusal, tickRefusal, readRefusal, semaphoreCreateRefusal, semaphoreDeleteRefusal, semaphoreGetRefusal, putRefusal, ceilingRefusal, semaphoreRefusal, queueCreateRefusal, queueDeleteRefusal, sendRefusal, receiveRefusal, queueRefusal, groupCreateRefusal, groupDeleteRefusal, setRefusal, getRefusal, poolCreateRefusal, poolDeleteRefusal, allocateRefusal, releaseRefusal, poolRefusal};
 use super::call::INTERRUPT;
 use super::call::STARTUP;
 use super::call::THREAD;
@@ -46,6 +46,7 @@ use objects::group::Group;
 use objects::group::is_met;
 use objects::queue::Queue;
 use objects::queue::sizes_fit;
+use objects::semaphore::LARGEST_COUNT;
 use objects::semaphore::Semaphore;
 use scheduler::thread::COMPLETED;
 use scheduler::thread::SUSPENDED;
@@ -231,11 +232,13 @@ pub fn semaphore_get(x: Semaphore, wait: u32, caller: u32) -> u32
     )
 }
 
-// Put and prioritise.
-pub fn semaphore(x: Semaphore) -> u32
-    ensures { λ r. ⌜ r ≡ semaphoreRefusal x ⌝ }
+pub fn put(x: Semaphore) -> u32
+    ensures { λ r. ⌜ r ≡ putRefusal x ⌝ }
 {
-    unless(x.created, SEMAPHORE_ERROR)
+    first(
+        unless(x.created, SEMAPHORE_ERROR),
+        unless(x.count < LARGEST_COUNT, CEILING_EXCEEDED),
+    )
 }
 
 pub fn ceiling_put(x: Semaphore, ceiling: u32) -> u32
@@ -248,6 +251,13 @@ pub fn ceiling_put(x: Semaphore, ceiling: u32) -> u32
             unless(x.count < ceiling, CEILING_EXCEEDED),
         ),
     )
+}
+
+// Prioritise.
+pub fn semaphore(x: Semaphore) -> u32
+    ensures { λ r. ⌜ r ≡ semaphoreRefusal x ⌝ }
+{
+    unless(x.created, SEMAPHORE_ERROR)
 }
 
 pub fn queue_create(n: QueueId, q: Queue, words: u32, storage: u32, caller: u32) -> u32

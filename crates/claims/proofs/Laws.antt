@@ -9,5 +9,6 @@ pub mod Ahead
 pub mod Entries
 pub mod Late
 pub mod Claims
+pub mod Puts
 pub mod Accounts
 pub mod Cases

@@ -1,21 +1,22 @@
--- Accounts from history (rules 13.5, 13.6): what a semaphore counts and how many blocks a pool has free, from the calls since its creation.
+-- Accounts from history (rules 13.5, 13.6, 13.8): what a semaphore counts and how many blocks a pool has free, from the calls since its creation.
 use mathlib.Core.Path.{_≡_}
 use mathlib.Core.List.{List, [], _∷_}
 use mathlib.Core.Bool.{Bool, true, false, _&&_}
-use Prim.Native.Nat.{ℕ, _+_, _-_, _/_, _%_, _<_, _≤_}
+use Prim.Native.Nat.{ℕ, _+_, _-_, _/_, _<_, _≤_}
 use lib.ListN.{length}
 use Rattle.lines.specs.Logic.{oneIf}
-use Rattle.lines.specs.Lists.{filter}
+use Rattle.lines.specs.Lists.{filter, count}
 use Rattle.scheduler.specs.Orders.{lineAt}
 use Rattle.blocks.specs.Pools.{blocksOf, freeBlocks}
 use Rattle.calls.specs.Services.{semaphoreCreate, blockPoolCreate}
+use Rattle.calls.specs.Statuses as Statuses
 use Rattle.kernel.specs.declared.Kernel.{Kernel}
 use Rattle.kernel.specs.Tables.{semaphoreAt, poolAt}
 use Rattle.kernel.specs.Sound.{Sound}
 use Rattle.kernel.specs.Kinds.{Kind, placeOf}
 use Rattle.kernel.specs.Roles.{rowOf}
 use Rattle.claims.specs.Lists.{Made, answer, next, after}
-use Rattle.claims.specs.Rolls.{onb, takesb, succeedsb, gave, servedb}
+use Rattle.claims.specs.Rolls.{onb, givesb, takesb, succeedsb, waitersOf, gave, servedb}
 
 -- ---- who is served
 -- rule 13.6: how many of those who waited there a call serves, whatever call it is
@@ -42,8 +43,8 @@ Undeleted d n k (m ∷ ms) = ((deletesb d n m && succeedsb (answer k m)) ≡ fal
 pub record SemaphoreAccount (n start : ℕ) (k : Kernel) (ms : List Made) : Type 0 where
   -- nothing is lost by taking off: no more gets are served than the start and the puts allow
   pub enough : served Kind.semaphore n k ms ≤ start + gave Kind.semaphore n k ms
-  -- the start plus puts less served gets, modulo 2^32
-  pub count : semaphoreAt (after k ms) n .count ≡ (start + gave Kind.semaphore n k ms - served Kind.semaphore n k ms) % 4294967296
+  -- the start plus puts less served gets, as numbers
+  pub count : semaphoreAt (after k ms) n .count ≡ start + gave Kind.semaphore n k ms - served Kind.semaphore n k ms
 
 -- rule 13.5: the account of a pool that starts with so many free blocks
 pub record PoolAccount (n start : ℕ) (k : Kernel) (ms : List Made) : Type 0 where
@@ -59,9 +60,9 @@ pub record PoolAccount (n start : ℕ) (k : Kernel) (ms : List Made) : Type 0 wh
 -- ---- the claims
 -- rule 13.5: the accounts hold of every list of calls in which no delete of the object is done
 pub record Accounts : Type 0 where
-  -- call 16 creates a semaphore with a start of 32 bits
-  pub semaphore : (k : Kernel) → Sound k → (m : Made) → m .request .number ≡ semaphoreCreate → m .request .b < 4294967296
-      → succeedsb (answer k m) ≡ true → (ms : List Made) → Undeleted Kind.semaphore (m .request .a) (next k m) ms
+  -- call 16 creates a semaphore that starts with the count of its second argument
+  pub semaphore : (k : Kernel) → Sound k → (m : Made) → m .request .number ≡ semaphoreCreate → succeedsb (answer k m) ≡ true
+      → (ms : List Made) → Undeleted Kind.semaphore (m .request .a) (next k m) ms
       → SemaphoreAccount (m .request .a) (m .request .b) (next k m) ms
   -- call 33 creates a pool, all of whose blocks are free
   pub pool : (k : Kernel) → Sound k → (m : Made) → m .request .number ≡ blockPoolCreate → succeedsb (answer k m) ≡ true
@@ -71,8 +72,11 @@ pub record Accounts : Type 0 where
   pub poolTotal : (k : Kernel) → Sound k → (m : Made) → m .request .number ≡ blockPoolCreate → succeedsb (answer k m) ≡ true
       → blocksOf (poolAt (next k m) (m .request .a)) ≡ m .request .c / (m .request .b + 4)
   -- from any sound tables in which it is created a semaphore has its present count for a start
-  pub semaphoreFrom : (k : Kernel) → Sound k → (n : ℕ) → semaphoreAt k n .created ≡ true → semaphoreAt k n .count < 4294967296
+  pub semaphoreFrom : (k : Kernel) → Sound k → (n : ℕ) → semaphoreAt k n .created ≡ true
       → (ms : List Made) → Undeleted Kind.semaphore n k ms → SemaphoreAccount n (semaphoreAt k n .count) k ms
   -- and a pool its free blocks, its list having its 64 slots
   pub poolFrom : (k : Kernel) → Sound k → (n : ℕ) → poolAt k n .created ≡ true → length (poolAt k n .list) ≡ 64
       → (ms : List Made) → Undeleted Kind.pool n k ms → PoolAccount n (poolAt k n .free) k ms
+  -- rule 13.8: a put to a semaphore that somebody waits on is never refused for the count
+  pub neverFull : (k : Kernel) → Sound k → (n t : ℕ) → 0 < count t (waitersOf Kind.semaphore n k) → (m : Made)
+      → givesb Kind.semaphore n m ≡ true → answer k m .status ≡ Statuses.ceilingExceeded → ⊥

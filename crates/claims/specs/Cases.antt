@@ -111,8 +111,11 @@ suspendedGet = made (made (made (withCount 0) 18 thread 0 forever 0 0) 4 interru
 pub record Cases : Type 0 where
   -- rule 15.1: clock 4,294,967,295, after a tick 0
   pub p1 : made (made started 14 startup 4294967295 0 0 0) 15 interrupt 0 0 0 0 .clock ≡ 0
-  -- rule 15.2: count 0xFFFFFFFF, after a put 0
-  pub p2 : semaphoreAt (made (withCount 0xFFFFFFFF) 19 interrupt 0 0 0 0) 0 .count ≡ 0
+  -- rule 15.2: count 0xFFFFFFFF: a put is refused with 0x21, and the count stays; at 0xFFFFFFFE it is done
+  pub p2 : (said (withCount 0xFFFFFFFF) 19 interrupt 0 0 0 0 .status ≡ Statuses.ceilingExceeded)
+      × (semaphoreAt (made (withCount 0xFFFFFFFF) 19 interrupt 0 0 0 0) 0 .count ≡ 0xFFFFFFFF)
+  pub p2done : (said (withCount 0xFFFFFFFE) 19 interrupt 0 0 0 0 .status ≡ Statuses.success)
+      × (semaphoreAt (made (withCount 0xFFFFFFFE) 19 interrupt 0 0 0 0) 0 .count ≡ 0xFFFFFFFF)
   -- rule 15.3: 7 changes nothing, 4 runs and the runner is marked, it finishes, and the runner returns, not 7, its mark ended
   pub p3 : (runnerOf p3a ≡ 0) × (runnerOf p3b ≡ 2) × (runnerOf (made p3b 7 thread 0 0 0 0) ≡ 0)
   pub p3mark : (threadOf p3a 0 .marked ≡ false) × (threadOf p3b 0 .marked ≡ true) × (threadOf (made p3b 7 thread 0 0 0 0) 0 .marked ≡ false)

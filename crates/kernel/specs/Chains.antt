@@ -25,8 +25,9 @@ use Rattle.calls.specs.Chains.{
   semaphoreCreateRefusal,
   semaphoreDeleteRefusal,
   semaphoreGetRefusal,
-  semaphoreRefusal,
+  putRefusal,
   ceilingRefusal,
+  semaphoreRefusal,
   queueCreateRefusal,
   queueDeleteRefusal,
   sendRefusal,
@@ -107,7 +108,7 @@ chainOf k caller Tick messages = tickRefusal caller
 chainOf k caller (SemaphoreCreate n count) messages = semaphoreCreateRefusal (n .0) (semaphoreAt k (n .0)) caller
 chainOf k caller (SemaphoreDelete n) messages = semaphoreDeleteRefusal (semaphoreAt k (n .0)) caller
 chainOf k caller (SemaphoreGet n wait) messages = semaphoreGetRefusal (semaphoreAt k (n .0)) wait caller
-chainOf k caller (SemaphorePut n) messages = semaphoreRefusal (semaphoreAt k (n .0))
+chainOf k caller (SemaphorePut n) messages = putRefusal (semaphoreAt k (n .0))
 chainOf k caller (SemaphoreCeilingPut n ceiling) messages = ceilingRefusal (semaphoreAt k (n .0)) ceiling
 chainOf k caller (SemaphorePrioritize n) messages = semaphoreRefusal (semaphoreAt k (n .0))
 chainOf k caller (QueueCreate n words storage) messages = queueCreateRefusal (n .0) (queueAt k (n .0)) words storage caller

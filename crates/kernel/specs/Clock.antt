@@ -1,7 +1,7 @@
 -- What calls 13 to 15 do.
 use mathlib.Core.List.{List, [], _∷_, _++_}
 use mathlib.Core.Bool.{Bool}
-use Prim.Native.Nat.{ℕ}
+use Prim.Native.Nat.{ℕ, _+_, _%_}
 use Rattle.numbers.specs.Numbers.{threads}
 use Rattle.lines.specs.Lists.{numbersFrom, filter}
 use Rattle.scheduler.specs.declared.thread.Thread.{Thread}
@@ -12,7 +12,7 @@ use Rattle.kernel.specs.Tables.{threadOf}
 use Rattle.kernel.specs.Edits.{Edit, applied, Effect}
 use Rattle.kernel.specs.Edits.Cause.{timedOut}
 use Rattle.kernel.specs.Edits.Edit.{counts, sets}
-use Rattle.kernel.specs.Effects.{gives, does, endsEach, oneMore}
+use Rattle.kernel.specs.Effects.{gives, does, endsEach}
 
 -- rule 6.9: call 13, clock get: word 0 is the clock
 unfoldable pub clockEffect : Kernel → Effect
@@ -23,6 +23,10 @@ unfoldable pub clockSetEffect : ℕ → Effect
 clockSetEffect time = does (sets time ∷ [])
 
 -- ---- the tick
+-- rule 6.10: the clock after a tick: after 4,294,967,295 comes 0
+unfoldable pub nextTime : ℕ → ℕ
+nextTime time = (time + 1) % 4294967296
+
 -- rule 6.10: the threads of whose records a test holds, in the order of their numbers
 abbrev pub threadsWith : (Thread → Bool) → Kernel → List ℕ
 threadsWith f k = filter (λ t. f (threadOf k t)) (numbersFrom 0 threads)
@@ -42,4 +46,4 @@ timeouts k = endsEach timedOut noWords (threadsWith atZerob k)
 
 -- rule 6.10: call 15, tick: ticks are taken, then the waits at zero end, and the clock goes on by one
 unfoldable pub tickEffect : Kernel → Effect
-tickEffect k = does (ticksTaken k ++ (timeouts (applied k (ticksTaken k)) ++ (sets (oneMore (k .clock)) ∷ [])))
+tickEffect k = does (ticksTaken k ++ (timeouts (applied k (ticksTaken k)) ++ (sets (nextTime (k .clock)) ∷ [])))

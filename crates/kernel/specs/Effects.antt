@@ -1,7 +1,7 @@
 -- Effects that many calls share.
 use mathlib.Core.List.{List, [], _∷_, _++_}
 use mathlib.Core.Bool.{Bool, true, false}
-use Prim.Native.Nat.{ℕ, _+_, _-_, _%_}
+use Prim.Native.Nat.{ℕ, _-_}
 use lib.Dec.{ltb}
 use Rattle.numbers.specs.Numbers.{nobody}
 use Rattle.lines.specs.Logic.{if_then_else_}
@@ -41,10 +41,6 @@ begins k front state object ticks h =
 unfoldable pub endsEach : Cause → List ℕ → List ℕ → List Edit
 endsEach c words [] = []
 endsEach c words (t ∷ ts) = moves t (ends c words) ∷ endsEach c words ts
-
--- rules 6.10, 7.2: one more in 32 bits: after 4,294,967,295 comes 0
-unfoldable pub oneMore : ℕ → ℕ
-oneMore c = (c + 1) % 4294967296
 
 -- ---- objects of any kind
 -- rules 7.3, 8.6, 9.5, 10.2: an object gets another record, as at its create

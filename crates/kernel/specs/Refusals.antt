@@ -8,6 +8,7 @@ use lib.ListN.{length}
 use Rattle.lines.specs.Logic.{if_then_else_}
 use Rattle.numbers.specs.Numbers.{nobody, priorities}
 use Rattle.scheduler.specs.Threads.{suspended, pausedb, finishedb}
+use Rattle.objects.specs.Semaphores.{largestCount}
 use Rattle.objects.specs.Queues.{emptyb, roomb, sizesFitb}
 use Rattle.objects.specs.Groups.{metb}
 use Rattle.blocks.specs.Pools.{blockSizesb, usedb}
@@ -156,7 +157,8 @@ refusals =
     (λ k q m. not (eqb (threadOf k (named q) .state) suspended || threadOf k (named q) .suspending)) ∷
     row Statuses.suspendError (of (threadSuspend ∷ [])) (λ k q m. overb k q) ∷
     row Statuses.waitAbortError (of (threadWaitAbort ∷ [])) (λ k q m. not (pausedb (threadOf k (named q)))) ∷
-    -- rule 3.11: a count at or over the ceiling
+    -- rule 3.11: a count that has reached the largest, or the ceiling
+    row Statuses.ceilingExceeded (of (semaphorePut ∷ [])) (λ k q m. leb largestCount (semaphoreAt k (named q) .count)) ∷
     row Statuses.ceilingExceeded (of (semaphoreCeilingPut ∷ [])) (λ k q m. leb (q .b) (semaphoreAt k (named q) .count)) ∷
     -- rule 3.12: a wait of 0, and no instance, no message, no room, flags that do not meet the request, no free block
     row Statuses.noInstance (of (semaphoreGet ∷ [])) (λ k q m. eqb (q .b) 0 && eqb (semaphoreAt k (named q) .count) 0) ∷

@@ -2,7 +2,7 @@
 use mathlib.Core.Path.{_≡_}
 use mathlib.Core.List.{List, [], _∷_}
 use mathlib.Core.Bool.{Bool, true, false, _&&_, not}
-use Prim.Native.Nat.{ℕ, _<_}
+use Prim.Native.Nat.{ℕ, _+_, _<_}
 use Prim.{Unit}
 use lib.Dec.{eqb}
 use Rattle.numbers.specs.Numbers.{threads}
@@ -27,7 +27,7 @@ use Rattle.kernel.specs.Edits.Move.{ends}
 use Rattle.kernel.specs.Edits.Edit.{moves, stores}
 use Rattle.calls.specs.Callers.{oneOf}
 use Rattle.kernel.specs.Roles.{rowOf, kindOf}
-use Rattle.kernel.specs.Effects.{does, oneMore, waitedb, counting, amountOf, oneLess}
+use Rattle.kernel.specs.Effects.{does, waitedb, counting, amountOf, oneLess}
 use Rattle.kernel.specs.Threads.{terminateEffect, abortEffect}
 
 -- thread t waits to take from object n
@@ -57,7 +57,7 @@ newOf pool b c = freshPool b c
 
 -- rules 7.2, 10.4: one more to take, given with argument b; of the kinds without an account as it was
 abbrev pub oneGiven : (d : Kind) → Object d → ℕ → Object d
-oneGiven semaphore x b = counting (oneMore (x .count))
+oneGiven semaphore x b = counting (x .count + 1)
 oneGiven queue x b = x
 oneGiven group x b = x
 oneGiven pool x b = withFree x b

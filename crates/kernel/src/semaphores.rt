@@ -1,7 +1,7 @@
 // Semaphore services.
 ghost use mathlib.Core.Path.{_≡_};
 ghost use lib.ListN.{set};
-ghost use Rattle.calls.specs.Chains.{semaphoreCreateRefusal, semaphoreGetRefusal, semaphoreRefusal, ceilingRefusal, semaphoreDeleteRefusal};
+ghost use Rattle.calls.specs.Chains.{semaphoreCreateRefusal, semaphoreGetRefusal, putRefusal, ceilingRefusal, semaphoreRefusal, semaphoreDeleteRefusal};
 ghost use Rattle.kernel.specs.Tables.{semaphoreAt};
 ghost use Rattle.kernel.specs.Answers.{answerOf};
 ghost use Rattle.kernel.specs.Kinds.{Kind};
@@ -91,13 +91,13 @@ impl Kernel {
         self.carried(s, status, [0; MESSAGE_WORDS], 0)
     }
 
-    // The first waiter is served, else the count goes up by one.
+    // The first waiter is served, else the count goes up by one; a put at the largest count is refused.
     pub(crate) fn semaphore_put(mut self, n: SemaphoreId) -> Answer
-        ensures { λ r. ⌜ r ≡ answerOf (guarded self (semaphoreRefusal (semaphoreAt self (n .0))) (putEffect self (n .0))) ⌝ }
+        ensures { λ r. ⌜ r ≡ answerOf (guarded self (putRefusal (semaphoreAt self (n .0))) (putEffect self (n .0))) ⌝ }
     {
         let all = self.semaphores;
         let x = semaphore_in(all, n);
-        let reason = refusal::semaphore(x);
+        let reason = refusal::put(x);
         if reason != 0 {
             return self.refused(reason);
         }
@@ -111,7 +111,7 @@ impl Kernel {
             s = s.woken(f);
             ended = 1;
         } else {
-            let changed = semaphores_with(all, n, counting(std::num::wrapping_add_u32(x.count, 1)));
+            let changed = semaphores_with(all, n, counting(x.count + 1));
             self.semaphores = changed;
         }
         self.carried(s, SUCCESS, [0; MESSAGE_WORDS], ended)

@@ -2,6 +2,9 @@
 ghost use mathlib.Core.Path.{_≡_};
 ghost use Rattle.objects.specs.Semaphores.{noSemaphore, semaphoreFitb};
 
+// The largest count, at which a put is refused.
+pub const LARGEST_COUNT: u32 = 0xFFFFFFFF;
+
 pub struct Semaphore {
     pub created: bool,
     pub count: u32,

@@ -127,7 +127,9 @@ impl Board {
         self.call(caller, Call::SemaphoreGet { semaphore, wait })
     }
 
-    /// Gives an instance to the first waiter, or adds one to the count.
+    /// Gives an instance to the first waiter, or adds one to the count. At the
+    /// largest count, 0xFFFFFFFF, it is refused with
+    /// [`Status::CeilingExceeded`](crate::Status::CeilingExceeded).
     pub fn semaphore_put(&mut self, caller: Caller, semaphore: Semaphore) -> Reply {
         self.call(caller, Call::SemaphorePut { semaphore })
     }

@@ -99,25 +99,73 @@ fn pool_cases(
     ]
 }
 
-#[test]
-fn calls_of_pools_meet_every_case() {
+/// What a call of a semaphore may meet, mostly at and next to the largest
+/// count: a name, and whether it is met.
+fn semaphore_cases(
+    before: &Tables,
+    record: &Record,
+    status: Status,
+    after: &Tables,
+) -> Vec<(&'static str, bool)> {
+    let [number, argument, ..] = record.args;
+    let (Some(semaphore), Some(semaphore_after)) =
+        (before.semaphores.get(number as usize), after.semaphores.get(number as usize))
+    else {
+        return Vec::new();
+    };
+    let largest = semaphore.count == u32::MAX;
+    let done = |call| record.call == call && status == Status::SUCCESS;
+    let refused = |call, with| record.call == call && status == Status(with);
+    let put_refused = largest && refused(19, 0x21);
+    vec![
+        ("create, the largest count", done(16) && argument == u32::MAX),
+        ("put to the largest count", done(19) && semaphore_after.count == u32::MAX),
+        ("put refused, start-up", put_refused && record.caller == 0),
+        ("put refused, interrupt", put_refused && record.caller == 1),
+        ("put refused, thread", put_refused && record.caller == 2),
+        ("put that serves", done(19) && !semaphore.line.is_empty()),
+        ("ceiling put to the largest count", done(20) && semaphore_after.count == u32::MAX),
+        ("ceiling put refused, the largest count", largest && refused(20, 0x21)),
+        ("ceiling put refused, smaller", !largest && refused(20, 0x21)),
+        ("get from the largest count", largest && done(18)),
+        ("prioritise, the largest count", largest && done(21)),
+        ("delete, the largest count", largest && done(17)),
+    ]
+}
+
+/// Counts the cases that generated tapes meet; each must be met several times.
+fn meets_every_case(
+    seed: u64,
+    cases: fn(&Tables, &Record, Status, &Tables) -> Vec<(&'static str, bool)>,
+) {
     let mut seen: BTreeMap<&str, u32> = BTreeMap::new();
     for number in 0..300 {
         let mut before = Tables::new();
-        generate(tape_seed(6, number), 300).run(
+        generate(tape_seed(seed, number), 300).run(
             &mut Tables::new(),
             u32::MAX,
             |_, record, outcome, after| {
-                for (name, met) in pool_cases(&before, record, outcome.status, after) {
+                for (name, met) in cases(&before, record, outcome.status, after) {
                     *seen.entry(name).or_default() += met as u32;
                 }
                 before = after.clone();
             },
         );
     }
+    assert!(!seen.is_empty());
     for (name, times) in &seen {
         assert!(*times >= 5, "{name}: met {times} times in {seen:?}");
     }
+}
+
+#[test]
+fn calls_of_pools_meet_every_case() {
+    meets_every_case(6, pool_cases);
+}
+
+#[test]
+fn calls_of_semaphores_meet_every_case() {
+    meets_every_case(8, semaphore_cases);
 }
 
 #[test]

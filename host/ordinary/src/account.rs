@@ -8,10 +8,10 @@ use crate::tape::Record;
 /// What counts and free blocks must be, kept from creation on.
 #[derive(Clone, Debug, Default)]
 pub struct Accounts {
-    /// Start plus puts less served gets, modulo 2^32.
-    counts: [Option<u32>; 16],
+    /// Start plus puts less served gets, as numbers: nothing wraps around.
+    counts: [Option<i64>; 16],
     /// Total plus releases less served allocates.
-    free_blocks: [Option<u32>; 4],
+    free_blocks: [Option<i64>; 4],
 }
 
 impl Accounts {
@@ -35,11 +35,11 @@ impl Accounts {
         let [number, count, ..] = record.args;
         let number = number as usize;
         match record.call {
-            16 => self.counts[number] = Some(count),
+            16 => self.counts[number] = Some(count.into()),
             17 => self.counts[number] = None,
             18 => change(&mut self.counts[number], -1),
             19 | 20 => change(&mut self.counts[number], 1),
-            33 => self.free_blocks[number] = Some(after.pools[number].blocks as u32),
+            33 => self.free_blocks[number] = Some(after.pools[number].blocks.into()),
             34 => self.free_blocks[number] = None,
             35 => change(&mut self.free_blocks[number], -1),
             36 => change(&mut self.free_blocks[number], 1),
@@ -65,12 +65,12 @@ impl Accounts {
 
     fn check(&self, after: &Tables) -> Result<(), &'static str> {
         for (semaphore, &count) in after.semaphores.iter().zip(&self.counts) {
-            if semaphore.created.then_some(semaphore.count) != count {
+            if semaphore.created.then_some(semaphore.count.into()) != count {
                 return Err("a count is not its start plus puts less served gets");
             }
         }
         for (pool, &free) in after.pools.iter().zip(&self.free_blocks) {
-            if pool.created.then_some(pool.free_count as u32) != free {
+            if pool.created.then_some(pool.free_count.into()) != free {
                 return Err("free blocks are not the total plus releases less allocates");
             }
         }
@@ -78,8 +78,8 @@ impl Accounts {
     }
 }
 
-fn change(account: &mut Option<u32>, by: i32) {
+fn change(account: &mut Option<i64>, by: i64) {
     if let Some(account) = account {
-        *account = account.wrapping_add_signed(by);
+        *account += by;
     }
 }

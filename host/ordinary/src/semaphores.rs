@@ -72,6 +72,9 @@ impl Tables {
 
     pub(crate) fn semaphore_put<const FAULT: u8>(&mut self, number: SemaphoreNo) -> Answer {
         let index = self.semaphore(number)?;
+        if self.semaphores[index].count == u32::MAX {
+            return Err(Status::CEILING_EXCEEDED);
+        }
         Ok(self.give_instance::<FAULT>(index))
     }
 
@@ -90,7 +93,8 @@ impl Tables {
         Ok(self.give_instance::<FAULT>(index))
     }
 
-    /// Serves the first waiter, else counts up; after 0xFFFFFFFF comes 0.
+    /// Serves the first waiter, else counts up. The count is below 0xFFFFFFFF:
+    /// both puts have refused it.
     #[inline]
     fn give_instance<const FAULT: u8>(&mut self, index: usize) -> Reply {
         match self.semaphores[index].line.first.index() {
@@ -99,7 +103,7 @@ impl Tables {
                 Reply::ended(1)
             }
             _ => {
-                self.semaphores[index].count = self.semaphores[index].count.wrapping_add(1);
+                self.semaphores[index].count += 1;
                 Reply::done()
             }
         }

@@ -13,11 +13,15 @@ fn p1_clock_wraps() {
 }
 
 #[test]
-fn p2_count_wraps() {
+fn p2_put_at_the_largest_count() {
     let mut board = Board::new();
-    board.ok(STARTUP, 16, &[0, 0xFFFF_FFFF]);
+    board.thread(0, 10);
+    board.ok(STARTUP, 16, &[0, 0xFFFF_FFFE]);
     board.ok(INTERRUPT, 19, &[0]);
-    assert_eq!(board.tables.semaphores[0].count, 0);
+    for caller in [STARTUP, INTERRUPT, THREAD] {
+        board.refused(caller, 19, &[0], 0x21);
+        assert_eq!(board.tables.semaphores[0].count, 0xFFFF_FFFF);
+    }
 }
 
 #[test]

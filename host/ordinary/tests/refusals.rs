@@ -80,6 +80,11 @@ fn by_startup(case: &mut Case) {
     case.caller = STARTUP;
 }
 
+/// Semaphore 0, on which nobody waits, has the largest count.
+fn largest_count(case: &mut Case) {
+    case.board.tables.semaphores[0].count = 0xFFFF_FFFF;
+}
+
 fn out_of_range(case: &mut Case) {
     case.args[0] = 0xFFFF_FFFF;
 }
@@ -263,12 +268,26 @@ fn semaphores() {
     for caller in [STARTUP, INTERRUPT, THREAD] {
         let none: [Breaker; 2] = [(0x0C, out_of_range), (0x0D, |case| case.arg(0, 1))];
         try_all(18, caller, [0, 0, 0, 0], &none);
+        let put: [Breaker; 2] = [(0x0C, out_of_range), (0x21, largest_count)];
+        try_all(19, caller, [0, 0, 0, 0], &put);
         try_all(19, caller, [1, 0, 0, 0], &[(0x0C, out_of_range)]);
         let ceiling: [Breaker; 3] =
             [(0x0C, out_of_range), (0x22, |case| case.arg(1, 0)), (0x21, |case| case.arg(1, 3))];
         try_all(20, caller, [0, 4, 0, 0], &ceiling);
         try_all(21, caller, [1, 0, 0, 0], &[(0x0C, out_of_range)]);
     }
+    // At the largest count only the two puts are refused for it.
+    let mut board = furnished();
+    board.tables.semaphores[0].count = 0xFFFF_FFFF;
+    for caller in [STARTUP, INTERRUPT, THREAD] {
+        board.refused(caller, 19, &[0], 0x21);
+        board.refused(caller, 20, &[0, 0xFFFF_FFFF], 0x21);
+        board.refused(caller, 20, &[0, 0], 0x22);
+        board.ok(caller, 21, &[0]);
+    }
+    board.ok(INTERRUPT, 18, &[0, 0]);
+    board.ok(INTERRUPT, 20, &[0, 0xFFFF_FFFF]);
+    board.ok(THREAD, 17, &[0]);
     let mut board = furnished();
     board.refused(INTERRUPT, 18, &[1, 1], 0x04);
     board.refused(THREAD, 18, &[2, 1], 0x0C);

@@ -1,22 +1,26 @@
 -- Every call's effect has words for data, where the tables, the arguments and the message words are words.
-use mathlib.Core.Path.{refl}
+use mathlib.Core.Path.{_≡_, refl}
 use mathlib.Core.List.{List, [], _∷_, _++_}
 use mathlib.Core.Bool.{Bool, false}
-use Prim.Native.Nat.{ℕ, _+_, _-_, min}
+use Prim.Native.Nat.{ℕ, _+_, _-_, _<_, min}
 use Prim.{tt}
 use native.Mathlib.Omega.{arith}
 use native.Mathlib.Nat.{mod-lt}
 use lib.ListN.{take, drop}
 use lib.Bits.{bitOr, bitXor, or-lt, and-le-l}
 use lib.Dec.{eqb, ltb}
+use borrow.Author.Tests.{ltb-true}
 use Rattle.numbers.specs.Numbers.{messageWords, slots}
+use Rattle.lines.specs.Logic.{if_then_else_}
 use Rattle.lines.proofs.Laws.Logic.{by-choice}
 use Rattle.lines.proofs.Laws.Lines.{length-pad}
 use Rattle.scheduler.specs.declared.thread.Thread.{Thread}
 use Rattle.scheduler.specs.Threads.{asleep, uncreated, readyb, pausedb, finishedb, inState, withSuspension, created}
 use Rattle.scheduler.specs.Changes.{withLevels}
 use Rattle.scheduler.specs.Orders.{firstAt}
+use Rattle.objects.specs.declared.semaphore.Semaphore.{Semaphore}
 use Rattle.objects.specs.declared.queue.Queue.{Queue}
+use Rattle.objects.specs.Semaphores.{largestCount}
 use Rattle.objects.specs.Queues.{emptyb, roomb, emptyQueue, usedWords, storedWords, storing, withoutOldest, withLast, withFirst, withSent, leftPast, flushed}
 use Rattle.objects.specs.Groups.{groupWith, metb, lessFlags}
 use Rattle.blocks.specs.declared.pool.Pool.{Pool}
@@ -25,25 +29,29 @@ use Rattle.calls.specs.declared.held.Held.{Held}
 use Rattle.calls.specs.Held.{noWords, oneWord, heldWaiting, sending, requesting, messageOf}
 use Rattle.calls.specs.Messages.{messageIn}
 use Rattle.calls.specs.Calls.{knownCall}
+use Rattle.calls.specs.Chains.{putRefusal, ceilingRefusal}
+use Rattle.calls.specs.Statuses as Statuses
 use Rattle.calls.specs.declared.call.Decoded.{Decoded}
 use Rattle.calls.specs.declared.call.Decoded.the-variants.{Known, Unknown}
 use Rattle.calls.proofs.Laws.Calls.{by-number}
 use Rattle.waiting.specs.Ticks.{timedb, atZerob}
 use Rattle.kernel.specs.declared.Kernel.{Kernel}
-use Rattle.kernel.specs.Tables.{threadOf, runnerOf, heldAt, queueAt, groupAt, poolAt}
+use Rattle.kernel.specs.Tables.{threadOf, runnerOf, heldAt, semaphoreAt, queueAt, groupAt, poolAt}
 use Rattle.kernel.specs.Kinds.{Kind, Object, stateOn, placeOf, objectAt, noObject}
 use Rattle.kernel.specs.Kinds.Kind.{semaphore, queue, group, pool}
 use Rattle.kernel.specs.Edits.{Cause, applied, Effect}
 use Rattle.kernel.specs.Edits.Cause.{served, deleted, timedOut}
 use Rattle.kernel.specs.Edits.Edit.{stores}
-use Rattle.kernel.specs.Effects.{gives, begins, endsEach, oneMore, storeEffect, closeEffect, removeEffect, rankEffect, serveEffect, waitedb, giveEffect, counting, amountOf, oneLess, takeEffect}
+use Rattle.kernel.specs.Effects.{gives, begins, endsEach, storeEffect, closeEffect, removeEffect, rankEffect, serveEffect, waitedb, giveEffect, counting, amountOf, oneLess, takeEffect}
 use Rattle.kernel.specs.Threads.{keeps, clears, createEffect, deleteEffect, resumeEffect, suspendEffect, terminateEffect, restEffect, relinquishEffect, sleepEffect, abortEffect, priorityEffect, preemptionEffect, stateEffect, wordsEffect}
-use Rattle.kernel.specs.Clock.{clockEffect, clockSetEffect, threadsWith, countsEach, ticksTaken, timeouts, tickEffect}
+use Rattle.kernel.specs.Clock.{clockEffect, clockSetEffect, nextTime, threadsWith, countsEach, ticksTaken, timeouts, tickEffect}
 use Rattle.kernel.specs.Semaphores.{semaphoreGetEffect, putEffect}
 use Rattle.kernel.specs.Queues.{sendEffect, pastEffect, receiveEffect, flushEffect}
 use Rattle.kernel.specs.Groups.{setOrEffect, setEffect, flagsGetEffect}
 use Rattle.kernel.specs.Pools.{allocateEffect, releaseEffect}
+use Rattle.kernel.specs.Chains.{chainOf, nobodyRunsb, chained}
 use Rattle.kernel.specs.General.{effectOf}
+use Rattle.kernel.proofs.Laws.Answers.{second-none, unless-none}
 use Rattle.kernel.proofs.Laws.Objects.{by-kind}
 use Rattle.words.specs.Words.{Word}
 use Rattle.codec.specs.Restored.{All, Array}
@@ -122,9 +130,9 @@ less-word : (flags others : ℕ) → Word flags → Word (lessFlags flags others
 unfolding lessFlags
 less-word flags others h = let l = and-le-l flags (bitXor 0xFFFFFFFF others) in omega (arith, h, l)
 
-more-word : (c : ℕ) → Word (oneMore c)
-unfolding oneMore
-more-word c = mod-lt (c + 1) (omega arith)
+time-word : (time : ℕ) → Word (nextTime time)
+unfolding nextTime
+time-word time = mod-lt (time + 1) (omega arith)
 
 -- ---- effects that many calls share
 module _ (k : Kernel) where
@@ -255,13 +263,13 @@ module _ (k : Kernel) where
   unfolding tickEffect ticksTaken timeouts
   tick-words =
       all-append EditWords (ticksTaken k) _ (counts-words (threadsWith timedb k))
-      (all-append EditWords (timeouts (applied k (ticksTaken k))) _ (each-words k timedOut noWords (threadsWith atZerob (applied k (ticksTaken k))) no-words) (more-word _, tt))
+      (all-append EditWords (timeouts (applied k (ticksTaken k))) _ (each-words k timedOut noWords (threadsWith atZerob (applied k (ticksTaken k))) no-words) (time-word _, tt))
 
 -- ---- objects
 module _ (k : Kernel) (W : Worded k) where
-  put-words : (n : ℕ) → EffectWords (putEffect k n)
+  put-words : (n : ℕ) → semaphoreAt k n .count < largestCount → EffectWords (putEffect k n)
   unfolding putEffect counting
-  put-words n = give-words k semaphore n noWords _ no-words (more-word _)
+  put-words n low = give-words k semaphore n noWords _ no-words (omega (arith, low))
 
   send-words : (n wait : ℕ) (front : Bool) (message : List ℕ) → Word wait → Array Word messageWords message → EffectWords (sendEffect k n wait front message)
   unfolding sendEffect
@@ -304,51 +312,64 @@ module _ (k : Kernel) (W : Worded k) where
   release-words n block h = give-words k pool n (oneWord block) _ (one-word block h) (listing-words (poolAt k n) _ (object-words k W pool n .0))
 
   -- ---- every call
-  module _ (a b c d : ℕ) (ha : Word a) (hb : Word b) (hc : Word c) (hd : Word d) (messages : List ℕ) (f : All Word messages) where
+  module _ (caller a b c d : ℕ) (ha : Word a) (hb : Word b) (hc : Word c) (hd : Word d) (messages : List ℕ) (f : All Word messages) where
+    -- a put that is not refused finds room in the count
+    not-refused : (c : ℕ) → (if nobodyRunsb caller (runnerOf k) then Statuses.nobodyRuns else c) ≡ 0 → c ≡ 0
+    not-refused c = by-choice (λ (s : ℕ). s ≡ 0 → c ≡ 0) (nobodyRunsb caller (runnerOf k)) Statuses.nobodyRuns c (λ h e. absurd (omega (arith, e))) (λ h e. e)
+
+    put-low : (x : Semaphore) → (if nobodyRunsb caller (runnerOf k) then Statuses.nobodyRuns else putRefusal x) ≡ 0 → x .count < largestCount
+    unfolding putRefusal
+    put-low x z = ltb-true (x .count) largestCount (unless-none _ Statuses.ceilingExceeded (omega arith) (second-none _ _ (not-refused _ z)))
+
+    ceiling-low : (x : Semaphore) → (if nobodyRunsb caller (runnerOf k) then Statuses.nobodyRuns else ceilingRefusal x b) ≡ 0 → x .count < largestCount
+    unfolding ceilingRefusal
+    ceiling-low x z = let l = ltb-true (x .count) b (unless-none _ Statuses.ceilingExceeded (omega arith) (second-none _ _ (second-none _ _ (not-refused _ z)))) in omega (arith, l, hb)
+
+    -- the edits of a call that is not refused
     abbrev pub KnownWords : ℕ → Decoded → Type 0
-    KnownWords n (Known call) = EffectWords (effectOf k call messages)
+    KnownWords n (Known call) = chained k caller call messages ≡ 0 → EffectWords (effectOf k call messages)
     KnownWords n Unknown = Unit {0}
 
     pub known-words : (n : ℕ) → KnownWords n (knownCall n a b c d)
-    unfolding knownCall effectOf semaphoreGetEffect allocateEffect counting emptyQueue groupWith freshPool
+    unfolding knownCall effectOf chained chainOf semaphoreGetEffect allocateEffect counting emptyQueue groupWith freshPool
     known-words n =
-        by-number KnownWords n 1 _ _ (create-words k (min a 32) b c d) (
-        by-number KnownWords n 2 _ _ (delete-words k (min a 32)) (
-        by-number KnownWords n 3 _ _ (resume-words k (min a 32)) (
-        by-number KnownWords n 4 _ _ (suspend-words k (min a 32)) (
-        by-number KnownWords n 5 _ _ (terminate-words k (min a 32)) (
-        by-number KnownWords n 6 _ _ (rest-words k (min a 32) 3) (
-        by-number KnownWords n 7 _ _ (rest-words k (runnerOf k) 1) (
-        by-number KnownWords n 8 _ _ (relinquish-words k) (
-        by-number KnownWords n 9 _ _ (sleep-words k a ha) (
-        by-number KnownWords n 10 _ _ (abort-words k (min a 32)) (
-        by-number KnownWords n 11 _ _ (priority-words k (min a 32) b) (
-        by-number KnownWords n 12 _ _ (preemption-words k (min a 32) b) (
-        by-number KnownWords n 13 _ _ (get-words k) (
-        by-number KnownWords n 14 _ _ (set-words k a ha) (
-        by-number KnownWords n 15 _ _ (tick-words k) (
-        by-number KnownWords n 16 _ _ (store-words k semaphore (min a 16) _ hb) (
-        by-number KnownWords n 17 _ _ (remove-words k semaphore (min a 16)) (
-        by-number KnownWords n 18 _ _ (take-words k W semaphore (min a 16) noWords b hb) (
-        by-number KnownWords n 19 _ _ (put-words (min a 16)) (
-        by-number KnownWords n 20 _ _ (put-words (min a 16)) (
-        by-number KnownWords n 21 _ _ (rank-words k semaphore (min a 16)) (
-        by-number KnownWords n 22 _ _ (store-words k queue (min a 8) _ (record { size = refl; each = all-replicate Word slots 0 (omega arith) })) (
-        by-number KnownWords n 23 _ _ (remove-words k queue (min a 8)) (
-        by-number KnownWords n 24 _ _ (send-words (min a 8) b _ _ hb (lent-words messages c _ f)) (
-        by-number KnownWords n 25 _ _ (send-words (min a 8) b _ _ hb (lent-words messages c _ f)) (
-        by-number KnownWords n 26 _ _ (receive-words (min a 8) b hb) (
-        by-number KnownWords n 27 _ _ (flush-words (min a 8)) (
-        by-number KnownWords n 28 _ _ (rank-words k queue (min a 8)) (
-        by-number KnownWords n 29 _ _ (store-words k group (min a 8) _ (omega arith)) (
-        by-number KnownWords n 30 _ _ (remove-words k group (min a 8)) (
-        by-number KnownWords n 31 _ _ (group-set-words (min a 8) b c hb) (
-        by-number KnownWords n 32 _ _ (flags-get-words (min a 8) b c d hb hd) (
-        by-number KnownWords n 33 _ _ (store-words k pool (min a 4) _ (listing-words _ _ hc)) (
-        by-number KnownWords n 34 _ _ (remove-words k pool (min a 4)) (
-        by-number KnownWords n 35 _ _ (take-words k W pool (min a 4) _ b hb) (
-        by-number KnownWords n 36 _ _ (release-words (min a 4) (min b 64) (omega (arith, hb))) (
-        by-number KnownWords n 37 _ _ (rank-words k pool (min a 4)) (
-        by-number KnownWords n 38 _ _ (state-words k (min a 32)) (
-        by-number KnownWords n 39 _ _ (words-words k (min a 32)) (
+        by-number KnownWords n 1 _ _ (λ z. create-words k (min a 32) b c d) (
+        by-number KnownWords n 2 _ _ (λ z. delete-words k (min a 32)) (
+        by-number KnownWords n 3 _ _ (λ z. resume-words k (min a 32)) (
+        by-number KnownWords n 4 _ _ (λ z. suspend-words k (min a 32)) (
+        by-number KnownWords n 5 _ _ (λ z. terminate-words k (min a 32)) (
+        by-number KnownWords n 6 _ _ (λ z. rest-words k (min a 32) 3) (
+        by-number KnownWords n 7 _ _ (λ z. rest-words k (runnerOf k) 1) (
+        by-number KnownWords n 8 _ _ (λ z. relinquish-words k) (
+        by-number KnownWords n 9 _ _ (λ z. sleep-words k a ha) (
+        by-number KnownWords n 10 _ _ (λ z. abort-words k (min a 32)) (
+        by-number KnownWords n 11 _ _ (λ z. priority-words k (min a 32) b) (
+        by-number KnownWords n 12 _ _ (λ z. preemption-words k (min a 32) b) (
+        by-number KnownWords n 13 _ _ (λ z. get-words k) (
+        by-number KnownWords n 14 _ _ (λ z. set-words k a ha) (
+        by-number KnownWords n 15 _ _ (λ z. tick-words k) (
+        by-number KnownWords n 16 _ _ (λ z. store-words k semaphore (min a 16) _ hb) (
+        by-number KnownWords n 17 _ _ (λ z. remove-words k semaphore (min a 16)) (
+        by-number KnownWords n 18 _ _ (λ z. take-words k W semaphore (min a 16) noWords b hb) (
+        by-number KnownWords n 19 _ _ (λ z. put-words (min a 16) (put-low (semaphoreAt k (min a 16)) z)) (
+        by-number KnownWords n 20 _ _ (λ z. put-words (min a 16) (ceiling-low (semaphoreAt k (min a 16)) z)) (
+        by-number KnownWords n 21 _ _ (λ z. rank-words k semaphore (min a 16)) (
+        by-number KnownWords n 22 _ _ (λ z. store-words k queue (min a 8) _ (record { size = refl; each = all-replicate Word slots 0 (omega arith) })) (
+        by-number KnownWords n 23 _ _ (λ z. remove-words k queue (min a 8)) (
+        by-number KnownWords n 24 _ _ (λ z. send-words (min a 8) b _ _ hb (lent-words messages c _ f)) (
+        by-number KnownWords n 25 _ _ (λ z. send-words (min a 8) b _ _ hb (lent-words messages c _ f)) (
+        by-number KnownWords n 26 _ _ (λ z. receive-words (min a 8) b hb) (
+        by-number KnownWords n 27 _ _ (λ z. flush-words (min a 8)) (
+        by-number KnownWords n 28 _ _ (λ z. rank-words k queue (min a 8)) (
+        by-number KnownWords n 29 _ _ (λ z. store-words k group (min a 8) _ (omega arith)) (
+        by-number KnownWords n 30 _ _ (λ z. remove-words k group (min a 8)) (
+        by-number KnownWords n 31 _ _ (λ z. group-set-words (min a 8) b c hb) (
+        by-number KnownWords n 32 _ _ (λ z. flags-get-words (min a 8) b c d hb hd) (
+        by-number KnownWords n 33 _ _ (λ z. store-words k pool (min a 4) _ (listing-words _ _ hc)) (
+        by-number KnownWords n 34 _ _ (λ z. remove-words k pool (min a 4)) (
+        by-number KnownWords n 35 _ _ (λ z. take-words k W pool (min a 4) _ b hb) (
+        by-number KnownWords n 36 _ _ (λ z. release-words (min a 4) (min b 64) (omega (arith, hb))) (
+        by-number KnownWords n 37 _ _ (λ z. rank-words k pool (min a 4)) (
+        by-number KnownWords n 38 _ _ (λ z. state-words k (min a 32)) (
+        by-number KnownWords n 39 _ _ (λ z. words-words k (min a 32)) (
         tt)))))))))))))))))))))))))))))))))))))))

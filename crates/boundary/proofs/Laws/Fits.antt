@@ -53,6 +53,7 @@ use Rattle.kernel.proofs.Laws.Objects as Objects
 use Rattle.kernel.proofs.Laws.Objects.{by-kind}
 use Rattle.kernel.proofs.Laws.Sound as Tested
 use Rattle.kernel.proofs.Laws.Claims as General
+use Rattle.kernel.proofs.Laws.Refusals.{Same, same-reason}
 use Rattle.words.specs.Words.{Byte}
 use Rattle.codec.specs.Restored.{All, ThreadFits, HeldFits, SemaphoreFits, QueueFits, GroupFits, PoolFits, SchedulerFits, Fits}
 use Rattle.codec.proofs.Laws.Arrays.{all-each, all-imply, all-replicate}
@@ -253,21 +254,21 @@ module _ (k : Kernel) (W : Worded k) (q : Request) (messages : List ℕ) where
 
   module _ (p : Passed (record { request = q; messages = messages })) where
     abbrev Words : Decoded → Type 0
-    Words = KnownWords k W (q .a) (q .b) (q .c) (q .d) (p .a) (p .b) (p .c) (p .d) messages (p .messages) (q .number)
+    Words = KnownWords k W (q .caller) (q .a) (q .b) (q .c) (q .d) (p .a) (p .b) (p .c) (p .d) messages (p .messages) (q .number)
 
-    of-decoded : (x : Decoded) → Words x → Worded (stepOf k q x messages .kernel)
+    of-decoded : (x : Decoded) → Same k (q .caller) (q .a) (q .b) (q .c) (q .d) messages (q .number) x → Words x → Worded (stepOf k q x messages .kernel)
     unfolding stepOf guarded refused
-    of-decoded (Known c) w =
+    of-decoded (Known c) same w =
         by-choice (λ (o : Outcome). Worded (o .kernel)) (eqb (reasonOf k q messages) 0) (carriedOut k (effectOf k c messages)) (refused k (reasonOf k q messages))
-        (λ e. carried-words (effectOf k c messages) w) (λ e. W)
-    of-decoded Unknown w = W
+        (λ e. carried-words (effectOf k c messages) (w (sym same ∙ eqb-true (reasonOf k q messages) 0 e))) (λ e. W)
+    of-decoded Unknown same w = W
 
     step-words : Worded (step k q messages .kernel)
     unfolding step decoded
     step-words =
-        of-decoded (decoded q)
+        of-decoded (decoded q) (same-reason k q messages)
         (by-choice Words (ltb 2 (q .caller)) Unknown (knownCall (q .number) (q .a) (q .b) (q .c) (q .d)) (λ e. tt)
-        (λ e. known-words k W (q .a) (q .b) (q .c) (q .d) (p .a) (p .b) (p .c) (p .d) messages (p .messages) (q .number)))
+        (λ e. known-words k W (q .caller) (q .a) (q .b) (q .c) (q .d) (p .a) (p .b) (p .c) (p .d) messages (p .messages) (q .number)))
 
 pub call-fits : (k : Kernel) → Fits k → (m : Made) → Passed m → Fits (next k m)
 unfolding next answer call answerOf unsound

@@ -2,7 +2,7 @@
 use mathlib.Core.Path.{_≡_, refl, sym, ap, _∙_, subst}
 use mathlib.Core.List.{List, [], _∷_}
 use mathlib.Core.Bool.{true}
-use Prim.Native.Nat.{ℕ, _+_, _-_, _/_, _%_, _<_, _≤_}
+use Prim.Native.Nat.{ℕ, _+_, _-_, _/_, _≤_}
 use native.Mathlib.Omega.{arith}
 use lib.ListN.{length}
 use Rattle.objects.specs.declared.semaphore.Semaphore.{Semaphore}
@@ -15,26 +15,27 @@ use Rattle.kernel.specs.Tables.{semaphoreAt, poolAt}
 use Rattle.kernel.specs.Kinds.Kind.{semaphore, pool}
 use Rattle.kernel.specs.Sound.{Sound}
 use Rattle.calls.specs.Callers.{oneOf}
-use Rattle.kernel.specs.Effects.{oneMore, counting}
+use Rattle.kernel.specs.Effects.{counting}
 use Rattle.claims.specs.Lists.{Made, answer, next, after}
 use Rattle.claims.specs.Rolls.{succeedsb, gave}
 use Rattle.claims.specs.Accounts.{servedLater, served, Undeleted, SemaphoreAccount, PoolAccount, Accounts}
 use Rattle.claims.proofs.Laws.Steps.{next-sound}
 use Rattle.claims.proofs.Laws.Served.{later}
+use Rattle.claims.proofs.Laws.Puts.{never-full}
 use Rattle.claims.proofs.Laws.Entries.{Entry, even, less, more, gives, takes, step-entry, new-object}
 
 -- ---- what one call makes of a count
 record Counted (n : ℕ) (k : Kernel) (m : Made) (status : ℕ) (x : Kernel) : Type 0 where
   created : semaphoreAt x n .created ≡ true
   enough : takes semaphore n m status + later semaphore n k x ≤ semaphoreAt k n .count + gives semaphore n m status
-  count : semaphoreAt x n .count ≡ (semaphoreAt k n .count + gives semaphore n m status - (takes semaphore n m status + later semaphore n k x)) % 4294967296
+  count : semaphoreAt x n .count ≡ semaphoreAt k n .count + gives semaphore n m status - (takes semaphore n m status + later semaphore n k x)
 
-module _ (n : ℕ) (k : Kernel) (m : Made) (status : ℕ) (x : Kernel) (made : semaphoreAt k n .created ≡ true) (low : semaphoreAt k n .count < 4294967296) where
+module _ (n : ℕ) (k : Kernel) (m : Made) (status : ℕ) (x : Kernel) (made : semaphoreAt k n .created ≡ true) where
   counted : Entry semaphore n k m status x → Counted n k m status x
-  unfolding counting oneMore
-  counted (even b e) = let c = ap (λ (y : Semaphore). y .count) e in record { created = ap (λ (y : Semaphore). y .created) e ∙ made; enough = omega (arith, b); count = omega (arith, b, c, low) }
-  counted (less o g some e) = let c = ap (λ (y : Semaphore). y .count) e in record { created = ap (λ (y : Semaphore). y .created) e; enough = omega (arith, o, some); count = omega (arith, o, g, c, low, some) }
-  counted (more o g may e) = let c = ap (λ (y : Semaphore). y .count) e in record { created = ap (λ (y : Semaphore). y .created) e; enough = omega (arith, o); count = omega (arith, o, g, c, low) }
+  unfolding counting
+  counted (even b e) = let c = ap (λ (y : Semaphore). y .count) e in record { created = ap (λ (y : Semaphore). y .created) e ∙ made; enough = omega (arith, b); count = omega (arith, b, c) }
+  counted (less o g some e) = let c = ap (λ (y : Semaphore). y .count) e in record { created = ap (λ (y : Semaphore). y .created) e; enough = omega (arith, o, some); count = omega (arith, o, g, c, some) }
+  counted (more o g may e) = let c = ap (λ (y : Semaphore). y .count) e in record { created = ap (λ (y : Semaphore). y .created) e; enough = omega (arith, o); count = omega (arith, o, g, c) }
 
 -- ---- and of the free blocks
 record Booked (n : ℕ) (k : Kernel) (m : Made) (status : ℕ) (x : Kernel) : Type 0 where
@@ -71,14 +72,14 @@ module _ (n : ℕ) (k : Kernel) (S : Sound k) (made : poolAt k n .created ≡ tr
         changed (withFree (poolAt k n) (m .request .b)) e (Records.with-alike (poolAt k n) (m .request .b)) (Records.listing-slots (poolAt k n) _) (omega (arith, o)) (omega (arith, o, g, f))
 
 -- ---- lists of calls
-semaphore-from : (n : ℕ) (ms : List Made) (k : Kernel) → Sound k → semaphoreAt k n .created ≡ true → semaphoreAt k n .count < 4294967296 → Undeleted semaphore n k ms → SemaphoreAccount n (semaphoreAt k n .count) k ms
+semaphore-from : (n : ℕ) (ms : List Made) (k : Kernel) → Sound k → semaphoreAt k n .created ≡ true → Undeleted semaphore n k ms → SemaphoreAccount n (semaphoreAt k n .count) k ms
 unfolding served servedLater gave after succeedsb
-semaphore-from n [] k S made low u = record { enough = omega arith; count = omega (arith, low) }
-semaphore-from n (m ∷ ms) k S made low u =
-    let one = counted n k m (answer k m .status) (next k m) made low (step-entry semaphore refl n k S made m (u .0)) in
+semaphore-from n [] k S made u = record { enough = omega arith; count = omega arith }
+semaphore-from n (m ∷ ms) k S made u =
+    let one = counted n k m (answer k m .status) (next k m) made (step-entry semaphore refl n k S made m (u .0)) in
     let few = one .enough in
     let now = one .count in
-    let rest = semaphore-from n ms (next k m) (next-sound k S m) (one .created) (omega (arith, now)) (u .1) in
+    let rest = semaphore-from n ms (next k m) (next-sound k S m) (one .created) (u .1) in
     let enough = rest .enough in
     let last = rest .count in
     record { enough = omega (arith, few, now, enough); count = omega (arith, few, now, enough, last) }
@@ -97,13 +98,13 @@ pool-from n (m ∷ ms) k S made slots u =
 
 -- ---- since creation
 module _ (k : Kernel) (S : Sound k) (m : Made) where
-  semaphore-since : m .request .number ≡ 16 → m .request .b < 4294967296 → succeedsb (answer k m) ≡ true → (ms : List Made) → Undeleted semaphore (m .request .a) (next k m) ms → SemaphoreAccount (m .request .a) (m .request .b) (next k m) ms
+  semaphore-since : m .request .number ≡ 16 → succeedsb (answer k m) ≡ true → (ms : List Made) → Undeleted semaphore (m .request .a) (next k m) ms → SemaphoreAccount (m .request .a) (m .request .b) (next k m) ms
   unfolding counting
-  semaphore-since n low done ms u =
+  semaphore-since n done ms u =
       let e = new-object k S m semaphore (subst (λ (i : ℕ). oneOf i (16 ∷ []) ≡ true) (sym n) refl) done in
       let c : semaphoreAt (next k m) (m .request .a) .count ≡ m .request .b = ap (λ (y : Semaphore). y .count) e in
       subst (λ (b : ℕ). SemaphoreAccount (m .request .a) b (next k m) ms) c
-      (semaphore-from (m .request .a) ms (next k m) (next-sound k S m) (ap (λ (y : Semaphore). y .created) e) (omega (arith, c, low)) u)
+      (semaphore-from (m .request .a) ms (next k m) (next-sound k S m) (ap (λ (y : Semaphore). y .created) e) u)
 
   module _ (n : m .request .number ≡ 33) (done : succeedsb (answer k m) ≡ true) where
     fresh : poolAt (next k m) (m .request .a) ≡ freshPool (m .request .b) (m .request .c)
@@ -127,9 +128,10 @@ module _ (k : Kernel) (S : Sound k) (m : Made) where
 pub accounts : Accounts
 accounts =
     record {
-      semaphore = λ k S m n low done ms u. semaphore-since k S m n low done ms u;
+      semaphore = λ k S m n done ms u. semaphore-since k S m n done ms u;
       pool = λ k S m n done ms u. pool-since k S m n done ms u;
       poolTotal = λ k S m n done. pool-total k S m n done;
-      semaphoreFrom = λ k S n made low ms u. semaphore-from n ms k S made low u;
+      semaphoreFrom = λ k S n made ms u. semaphore-from n ms k S made u;
       poolFrom = λ k S n made slots ms u. pool-from n ms k S made slots u;
+      neverFull = λ k S n t here m g. never-full k S n t here m g;
     }

@@ -27,7 +27,7 @@ module _ (k : Kernel) (S : Sound k) (m : Made) where
   stepped = General.step k (m .request) (m .messages)
 
   -- on sound tables the general call is the step
-  answer-is : answer k m ≡ answerOf stepped
+  pub answer-is : answer k m ≡ answerOf stepped
   unfolding answer General.call
   answer-is = ap (λ (b : Bool). if b then answerOf stepped else General.unsound k) (passes k S)
 

@@ -19,6 +19,7 @@ use Rattle.calls.specs.declared.call.Decoded.{Decoded}
 use Rattle.calls.specs.declared.call.Decoded.the-variants.{Known, Unknown}
 use Rattle.calls.proofs.Laws.Calls.{by-number}
 use Rattle.kernel.specs.declared.Kernel.{Kernel}
+use Rattle.objects.specs.Semaphores.{largestCount}
 use Rattle.objects.specs.Queues.{emptyb, roomb}
 use Rattle.objects.specs.Groups.{metb}
 use Rattle.kernel.specs.Tables.{threadOf, runnerOf, semaphoreAt, queueAt, groupAt, poolAt}
@@ -110,7 +111,7 @@ module _ (k : Kernel) (caller a b c d : ℕ) (messages : List ℕ) where
   known r c e = ap (λ (x : ℕ). if nobodyRunsb caller (runnerOf k) then Statuses.nobodyRuns else x) e
 
   known-same : (n : ℕ) → Same n (knownCall n a b c d)
-  unfolding knownCall reasonOf firstReason refusals chained chainOf limitOf allowedb Chains.createRefusal Chains.deleteRefusal Chains.resumeRefusal Chains.suspendRefusal Chains.terminateRefusal Chains.resetRefusal Chains.setRefusal Chains.threadOnlyRefusal Chains.abortRefusal Chains.priorityRefusal Chains.preemptionRefusal Chains.tickRefusal Chains.semaphoreCreateRefusal Chains.semaphoreDeleteRefusal Chains.semaphoreGetRefusal Chains.semaphoreRefusal Chains.ceilingRefusal Chains.queueCreateRefusal Chains.queueDeleteRefusal Chains.sendRefusal Chains.receiveRefusal Chains.queueRefusal Chains.groupCreateRefusal Chains.groupDeleteRefusal Chains.getRefusal Chains.poolCreateRefusal Chains.poolDeleteRefusal Chains.allocateRefusal Chains.releaseRefusal Chains.poolRefusal Chains.readRefusal
+  unfolding knownCall reasonOf firstReason refusals chained chainOf limitOf allowedb Chains.createRefusal Chains.deleteRefusal Chains.resumeRefusal Chains.suspendRefusal Chains.terminateRefusal Chains.resetRefusal Chains.setRefusal Chains.threadOnlyRefusal Chains.abortRefusal Chains.priorityRefusal Chains.preemptionRefusal Chains.tickRefusal Chains.semaphoreCreateRefusal Chains.semaphoreDeleteRefusal Chains.semaphoreGetRefusal Chains.putRefusal Chains.ceilingRefusal Chains.semaphoreRefusal Chains.queueCreateRefusal Chains.queueDeleteRefusal Chains.sendRefusal Chains.receiveRefusal Chains.queueRefusal Chains.groupCreateRefusal Chains.groupDeleteRefusal Chains.getRefusal Chains.poolCreateRefusal Chains.poolDeleteRefusal Chains.allocateRefusal Chains.releaseRefusal Chains.poolRefusal Chains.readRefusal
   known-same n =
       by-number Same n 1 _ _ (known _ _ (link _ _ _ _ _ (or-not (ltb (min a 32) 32) (threadOf k (min a 32) .created)) refl (link _ _ _ _ _ (at-least 32 b) refl (link _ _ _ _ _ (above b c) refl (link _ _ _ _ _ (start-is d) refl (last _ _ _ refl)))))) (
       by-number Same n 2 _ _ (known _ _ (link _ _ _ _ _ refl refl (link _ _ _ _ _ refl refl (last _ _ _ refl)))) (
@@ -130,7 +131,7 @@ module _ (k : Kernel) (caller a b c d : ℕ) (messages : List ℕ) where
       by-number Same n 16 _ _ (known _ _ (link _ _ _ _ _ (or-not (ltb (min a 16) 16) (semaphoreAt k (min a 16) .created)) refl (last _ _ _ refl))) (
       by-number Same n 17 _ _ (known _ _ (link _ _ _ _ _ refl refl (last _ _ _ refl))) (
       by-number Same n 18 _ _ (known _ _ (link _ _ _ _ _ refl refl (link _ _ _ _ _ (neither (eqb b 0) (eqb caller 2)) refl (last _ _ _ (none-there b (eqb (semaphoreAt k (min a 16) .count) 0) (ltb 0 (semaphoreAt k (min a 16) .count)) (zero-is (semaphoreAt k (min a 16) .count))))))) (
-      by-number Same n 19 _ _ (known _ _ (last _ _ _ refl)) (
+      by-number Same n 19 _ _ (known _ _ (link _ _ _ _ _ refl refl (last _ _ _ (at-least largestCount (semaphoreAt k (min a 16) .count))))) (
       by-number Same n 20 _ _ (known _ _ (link _ _ _ _ _ refl refl (link _ _ _ _ _ (zero-is b) refl (last _ _ _ (at-least b (semaphoreAt k (min a 16) .count)))))) (
       by-number Same n 21 _ _ (known _ _ (last _ _ _ refl)) (
       by-number Same n 22 _ _ (known _ _ (link _ _ _ _ _ (or-not (ltb (min a 8) 8) (queueAt k (min a 8) .created)) refl (link _ _ _ _ _ refl refl (last _ _ _ refl)))) (

@@ -28,8 +28,8 @@ use Rattle.kernel.specs.Edits.Cause.{timedOut}
 use Rattle.kernel.specs.Edits.Move.{ends}
 use Rattle.kernel.specs.Edits.Edit.{moves, counts, sets}
 use Rattle.kernel.specs.Edits.Success.{done}
-use Rattle.kernel.specs.Effects.{does, endsEach, oneMore}
-use Rattle.kernel.specs.Clock.{countsEach, ticksTaken, timeouts, tickEffect}
+use Rattle.kernel.specs.Effects.{does, endsEach}
+use Rattle.kernel.specs.Clock.{nextTime, countsEach, ticksTaken, timeouts, tickEffect}
 use Rattle.kernel.proofs.Laws.Edits
 use Rattle.kernel.proofs.Laws.Waits
 
@@ -47,7 +47,7 @@ ticksBelow (suc n) k = ticksBelow n k ++ tickOf (threadOf k n) n
 
 -- all threads, and the clock
 unfoldable pub onePass : Kernel → Effect
-onePass k = does (ticksBelow 32 k ++ (sets (oneMore (k .clock)) ∷ []))
+onePass k = does (ticksBelow 32 k ++ (sets (nextTime (k .clock)) ∷ []))
 
 -- by the three cases of a record
 module _ (k : Kernel) (n : ℕ) (th : Thread) where
@@ -272,7 +272,7 @@ module _ (k : Kernel) where
       ∙ (λ i. pass-movers n i ++ tick-movers k n (threadOf k n) endsb refl i) ∙ sym (with-last (λ t. lastTickb (threadOf k t)) n)
 
   abbrev clock : List Edit
-  clock = sets (oneMore (k .clock)) ∷ []
+  clock = sets (nextTime (k .clock)) ∷ []
 
   ends-are : timeouts (applied k (ticksTaken k)) ≡ endsEach timedOut noWords (last k 32)
   unfolding timeouts ticksTaken

@@ -21,7 +21,7 @@ use Rattle.kernel.specs.Edits.{statusBy, recordBy, heldBy, frontb, edite
 use Rattle.kernel.specs.Edits.Cause.{timedOut}
 use Rattle.kernel.specs.Edits.Move.{ends}
 use Rattle.kernel.specs.Edits.Edit.{moves, counts, sets}
-use Rattle.kernel.specs.Effects.{oneMore}
+use Rattle.kernel.specs.Clock.{nextTime}
 use Rattle.kernel.proofs.Laws.Waits.{woken-sized}
 use Rattle.kernel.proofs.Laws.Ticks.{ticksBelow, onePass, tick-same, below-other, more-below, more-ended, tick-last, tick-timed, tick-none}
 use Rattle.kernel.proofs.Laws.Fits.{ticks-left}
@@ -129,7 +129,7 @@ loop-again-3 c =
     (omega arith, l .inv .1, l .inv .2, e, omega (arith, n), omega arith)
 
 returns-2 : tie.Need-returns-2 Inv-loop μ-loop
-unfolding onePass oneMore applied edited gathered withScheduler withClock
+unfolding onePass nextTime applied edited gathered withScheduler withClock
 returns-2 c =
     let a = c .before .before .before .before .before .before .before .args in
     let l = c .before .before .loop in

@@ -25,8 +25,7 @@ use Rattle.kernel.specs.Edits.Move.{ends}
 use Rattle.kernel.specs.Edits.Edit.{moves, counts, sets}
 use Rattle.kernel.specs.Edits.Success.{done}
 use Rattle.kernel.specs.Roles.{mayMoveb, mayb, allb}
-use Rattle.kernel.specs.Effects.{oneMore}
-use Rattle.kernel.specs.Clock.{clockEffect, clockSetEffect}
+use Rattle.kernel.specs.Clock.{clockEffect, clockSetEffect, nextTime}
 use Rattle.kernel.proofs.Laws.Edits
 use Rattle.kernel.proofs.Laws.Ticks.{tickOf, ticksBelow, onePass, tick-movers, below-other}
 use Rattle.kernel.proofs.Laws.Fits
@@ -55,7 +54,7 @@ module _ (k : Kernel) (f : Edit → List ℕ) (b : Thread → Bool) (clock : (c 
 
   tick-named : gathered f (onePass k .edits) ≡ gathered f (ticksBelow 32 k)
   unfolding onePass gathered
-  tick-named = Edits.gathered-append f (ticksBelow 32 k) (sets (oneMore (k .clock)) ∷ []) ∙ rw (clock (oneMore (k .clock))) (append-nil (gathered f (ticksBelow 32 k)))
+  tick-named = Edits.gathered-append f (ticksBelow 32 k) (sets (nextTime (k .clock)) ∷ []) ∙ rw (clock (nextTime (k .clock))) (append-nil (gathered f (ticksBelow 32 k)))
 
   tick-count : (u : ℕ) → u < 32 → count u (gathered f (onePass k .edits)) ≡ oneIf (b (threadOf k u))
   tick-count u l = ap (count u) tick-named ∙ ticks-below 32 u l
@@ -110,7 +109,7 @@ module _ (k : Kernel) (b c : ℕ) (messages : List ℕ) (caller a : ℕ) where
   tick-does =
       record {
         proper = λ S runs z. (let es = ticksBelow 32 k in
-            let clock = sets (oneMore (k .clock)) ∷ [] in
+            let clock = sets (nextTime (k .clock)) ∷ [] in
             Effects.proper-all k (S .fit) 15 a (es ++ clock) noWords (Effects.fits-append k es clock (below-fits k (S .fit) 32) ((tt, tt), tt)) (tick-once k (mover anyb) lastTickb (λ i. refl) (λ th t. tick-movers k t th anyb refl))
             (Edits.all-append (mayb 15 a) es clock (below-all (mayb 15 a) (λ t. refl) (λ t. refl) k 32) refl) (Edits.all-append Lines.unstartedb es clock (below-all Lines.unstartedb (λ t. refl) (λ t. refl) k 32) refl));
         role = λ S z. (

@@ -7,14 +7,13 @@ use native.Mathlib.Omega.{arith}
 use Rattle.objects.specs.Semaphores.{noSemaphore}
 use Rattle.calls.specs.Held.{noWords}
 use Rattle.calls.specs.Statuses as Statuses
-use Rattle.calls.specs.Chains.{semaphoreCreateRefusal, semaphoreDeleteRefusal, semaphoreGetRefusal, semaphoreRefusal, ceilingRefusal}
+use Rattle.calls.specs.Chains.{semaphoreCreateRefusal, semaphoreDeleteRefusal, semaphoreGetRefusal, putRefusal, ceilingRefusal, semaphoreRefusal}
 use Rattle.kernel.specs.declared.Kernel.{Kernel}
 use Rattle.kernel.specs.Tables.{semaphoreAt}
 use Rattle.kernel.specs.Kinds.Kind.{semaphore}
 use Rattle.kernel.specs.Roles.{mayMoveb, mayb}
 use Rattle.kernel.specs.Effects.{storeEffect, removeEffect, rankEffect, counting}
 use Rattle.kernel.specs.Semaphores.{semaphoreGetEffect, putEffect}
-use Rattle.kernel.proofs.Laws.Answers.{unless-none}
 use Rattle.kernel.proofs.Laws.Does
 use Rattle.kernel.proofs.Laws.Effects
 use Rattle.kernel.proofs.Laws.Uses
@@ -32,9 +31,9 @@ module _ (k : Kernel) (b c : ℕ) (messages : List ℕ) (caller n : ℕ) where
   unfolding semaphoreGetRefusal semaphoreGetEffect counting mayb
   get-does wait = Uses.take-does k b c messages caller 18 n semaphore refl wait noWords Statuses.semaphoreError Statuses.noInstance (omega arith) (omega arith) (λ S made. refl) (Effects.here n) (λ T. (tt, T, tt, tt, tt, tt, tt))
 
-  pub put-does : Does.Does k caller 19 n b c messages (semaphoreRefusal (semaphoreAt k n)) (putEffect k n)
-  unfolding semaphoreRefusal putEffect counting mayMoveb mayb
-  put-does = Uses.give-does k b c messages caller 19 n semaphore refl _ (λ z. unless-none _ Statuses.semaphoreError (omega arith) z) (λ S z. (refl, refl)) (λ t. Effects.here n) (Effects.here n) (λ G. (tt, tt, G, tt, tt, tt, tt))
+  pub put-does : Does.Does k caller 19 n b c messages (putRefusal (semaphoreAt k n)) (putEffect k n)
+  unfolding putRefusal putEffect counting mayMoveb mayb
+  put-does = Uses.give-does k b c messages caller 19 n semaphore refl _ (λ z. Effects.is-true _ Statuses.semaphoreError _ (omega arith) z) (λ S z. (refl, refl)) (λ t. Effects.here n) (Effects.here n) (λ G. (tt, tt, G, tt, tt, tt, tt))
 
   pub ceiling-does : (ceiling : ℕ) → Does.Does k caller 20 n b c messages (ceilingRefusal (semaphoreAt k n) ceiling) (putEffect k n)
   unfolding ceilingRefusal putEffect counting mayMoveb mayb
