@@ -19,6 +19,7 @@ use Rattle.calls.specs.Chains.{unless, firstOf, putRefusal, ceilingRefusal}
 use Rattle.calls.specs.declared.call.Request.{Request}
 use Rattle.calls.specs.declared.call.Decoded.{Decoded}
 use Rattle.calls.specs.declared.call.Decoded.the-variants.{Known, Unknown}
+use Rattle.waiting.specs.Fit.{semaphoreWaitb}
 use Rattle.kernel.specs.declared.Kernel.{Kernel}
 use Rattle.kernel.specs.declared.Answer.{Answer}
 use Rattle.kernel.specs.Tables.{threadOf, runnerOf, semaphoreAt}
@@ -57,7 +58,7 @@ module _ (k : Kernel) (q : Request) (messages : List ℕ) where
   step-fine (Known call) same fine =
       by-choice (λ (o : Outcome). o .status ≡ Statuses.ceilingExceeded → ⊥) (eqb (reasonOf k q messages) 0) (carriedOut k (effectOf k call messages)) (refused k (reasonOf k q messages))
       (λ z. never-status (effectOf k call messages .success)) (λ z e. fine (sym same ∙ e))
-  step-fine Unknown same fine e = omega (arith, e)
+  step-fine Unknown same fine = λ e. omega (arith, e)
 
 module _ (k : Kernel) (S : Sound k) (n t : ℕ) (here : 0 < count t (waitersOf semaphore n k)) where
   placed : placedb (placeOf semaphore n) (threadOf k t) ≡ true
@@ -68,6 +69,7 @@ module _ (k : Kernel) (S : Sound k) (n t : ℕ) (here : 0 < count t (waitersOf s
 
   -- it is created, and its count is 0
   empty : (semaphoreAt k n .created && eqb (semaphoreAt k n .count) 0) ≡ true
+  unfolding semaphoreWaitb
   empty = taker-may semaphore k (S .fit) n t (placed, waiter-takes semaphore n k (S .fit) (λ z. omega (arith, z)) t placed)
 
   made : semaphoreAt k n .created ≡ true
