@@ -282,6 +282,28 @@ static void messages_outside(void)
     check("send, message far outside", refuses(reply, TX_PTR_ERROR, 0), reply.status);
 }
 
+/* A put at the largest count, by each caller, and a ceiling put. */
+static void puts_at_the_largest_count(void)
+{
+    static const char *const names[] = {"put by start-up, largest count",
+                                        "put by interrupt, largest count",
+                                        "put by thread, largest count"};
+    apachimo_reply reply;
+    uint32_t caller;
+
+    prepare();
+    put_word(state() + SEMAPHORES + 1, 0xFFFFFFFF);
+    before = now;
+    for (caller = APACHIMO_STARTUP; caller <= APACHIMO_THREAD; caller++) {
+        reply = apachimo_call(state(), APACHIMO_STATE_BYTES, APACHIMO_SEMAPHORE_PUT, caller, 0, 0,
+                              0, 0, NULL, 0);
+        check(names[caller], refuses(reply, TX_CEILING_EXCEEDED, 0), reply.status);
+    }
+    reply = apachimo_call(state(), APACHIMO_STATE_BYTES, APACHIMO_SEMAPHORE_CEILING_PUT,
+                          APACHIMO_INTERRUPT, 0, 0xFFFFFFFF, 0, 0, NULL, 0);
+    check("ceiling put, largest count", refuses(reply, TX_CEILING_EXCEEDED, 0), reply.status);
+}
+
 /* What is carried out changes the block and the replies, and no guard. */
 static void carried_out(void)
 {
@@ -318,6 +340,7 @@ int main(void)
     refused_tapes();
     short_reply_buffers();
     messages_outside();
+    puts_at_the_largest_count();
     carried_out();
     return failures == 0 ? 0 : 1;
 }

@@ -1,7 +1,7 @@
 //! Each method of a board makes the call of its name.
 
 use apachimo::{Board, Call, Caller, GetOption, Group, Pool, Queue, Semaphore, SetOption, Start};
-use apachimo::{Status, Thread, Wait};
+use apachimo::{Reply, Status, Thread, Wait};
 
 const ALL: Caller = Caller::Thread;
 const SEMAPHORE: Semaphore = Semaphore(1);
@@ -179,6 +179,28 @@ fn methods_make_the_calls_of_their_names() {
         numbers.push(call.number());
     }
     assert_eq!(numbers, (1..40).collect::<Vec<u32>>());
+}
+
+#[test]
+fn a_put_at_the_largest_count_changes_nothing() {
+    let full = Semaphore(3);
+    let mut board = board();
+    board.semaphore_create(Caller::StartUp, full, u32::MAX - 1);
+    assert_eq!(board.semaphore_put(Caller::Interrupt, full).status, Status::Success);
+    let before = board.clone();
+    let refused =
+        Reply { status: Status::CeilingExceeded, words: [0; 16], next: Some(Thread(0)), ended: 0 };
+    for caller in [Caller::StartUp, Caller::Interrupt, Caller::Thread] {
+        assert_eq!(board.semaphore_put(caller, full), refused);
+        assert_eq!(board.semaphore_ceiling_put(caller, full, u32::MAX), refused);
+        assert_eq!(board, before);
+    }
+    // A waiter of another semaphore is served as ever, and one get makes room again.
+    assert_eq!(board.semaphore_put(Caller::Interrupt, SEMAPHORE).ended, 1);
+    assert_eq!(board.semaphore_prioritize(Caller::Interrupt, full).status, Status::Success);
+    assert_eq!(board.semaphore_get(Caller::Interrupt, full, Wait::NONE).status, Status::Success);
+    assert_eq!(board.semaphore_put(Caller::Thread, full).status, Status::Success);
+    assert!(board.tables().to_string().contains("sem 3 count=4294967295: \n"));
 }
 
 #[test]

@@ -608,11 +608,12 @@ fn edge_pool_sizes(rng: &mut Rng) -> (u32, u32) {
     (bytes, total)
 }
 
+/// Mostly 0 or few, often at and next to the largest count.
 fn start_count(rng: &mut Rng) -> u32 {
-    match rng.weighted(&[55, 30, 10, 5]) {
+    match rng.weighted(&[50, 25, 20, 5]) {
         0 => 0,
         1 => rng.between(1, 3),
-        2 => FOREVER - rng.below(2),
+        2 => u32::MAX - rng.below(3),
         _ => rng.word(),
     }
 }
