@@ -9,7 +9,6 @@ use native.Mathlib.Nat.{mod-lt}
 use lib.ListN.{take, drop}
 use lib.Bits.{bitOr, bitXor, or-lt, and-le-l}
 use lib.Dec.{eqb, ltb}
-use borrow.Author.Tests.{ltb-true}
 use Rattle.numbers.specs.Numbers.{messageWords, slots}
 use Rattle.lines.specs.Logic.{if_then_else_}
 use Rattle.lines.proofs.Laws.Logic.{by-choice}
@@ -18,7 +17,6 @@ use Rattle.scheduler.specs.declared.thread.Thread.{Thread}
 use Rattle.scheduler.specs.Threads.{asleep, uncreated, readyb, pausedb, finishedb, inState, withSuspension, created}
 use Rattle.scheduler.specs.Changes.{withLevels}
 use Rattle.scheduler.specs.Orders.{firstAt}
-use Rattle.objects.specs.declared.semaphore.Semaphore.{Semaphore}
 use Rattle.objects.specs.declared.queue.Queue.{Queue}
 use Rattle.objects.specs.Semaphores.{largestCount}
 use Rattle.objects.specs.Queues.{emptyb, roomb, emptyQueue, usedWords, storedWords, storing, withoutOldest, withLast, withFirst, withSent, leftPast, flushed}
@@ -29,7 +27,6 @@ use Rattle.calls.specs.declared.held.Held.{Held}
 use Rattle.calls.specs.Held.{noWords, oneWord, heldWaiting, sending, requesting, messageOf}
 use Rattle.calls.specs.Messages.{messageIn}
 use Rattle.calls.specs.Calls.{knownCall}
-use Rattle.calls.specs.Chains.{putRefusal, ceilingRefusal}
 use Rattle.calls.specs.Statuses as Statuses
 use Rattle.calls.specs.declared.call.Decoded.{Decoded}
 use Rattle.calls.specs.declared.call.Decoded.the-variants.{Known, Unknown}
@@ -51,7 +48,7 @@ use Rattle.kernel.specs.Groups.{setOrEffect, setEffect, flagsGetEffect}
 use Rattle.kernel.specs.Pools.{allocateEffect, releaseEffect}
 use Rattle.kernel.specs.Chains.{chainOf, nobodyRunsb, chained}
 use Rattle.kernel.specs.General.{effectOf}
-use Rattle.kernel.proofs.Laws.Answers.{second-none, unless-none}
+use Rattle.kernel.proofs.Laws.Answers.{put-low, ceiling-low}
 use Rattle.kernel.proofs.Laws.Objects.{by-kind}
 use Rattle.words.specs.Words.{Word}
 use Rattle.codec.specs.Restored.{All, Array}
@@ -313,17 +310,9 @@ module _ (k : Kernel) (W : Worded k) where
 
   -- ---- every call
   module _ (caller a b c d : ℕ) (ha : Word a) (hb : Word b) (hc : Word c) (hd : Word d) (messages : List ℕ) (f : All Word messages) where
-    -- a put that is not refused finds room in the count
+    -- where a call by a known caller is not refused, its chain gives no reason
     not-refused : (c : ℕ) → (if nobodyRunsb caller (runnerOf k) then Statuses.nobodyRuns else c) ≡ 0 → c ≡ 0
     not-refused c = by-choice (λ (s : ℕ). s ≡ 0 → c ≡ 0) (nobodyRunsb caller (runnerOf k)) Statuses.nobodyRuns c (λ h e. absurd (omega (arith, e))) (λ h e. e)
-
-    put-low : (x : Semaphore) → (if nobodyRunsb caller (runnerOf k) then Statuses.nobodyRuns else putRefusal x) ≡ 0 → x .count < largestCount
-    unfolding putRefusal
-    put-low x z = ltb-true (x .count) largestCount (unless-none _ Statuses.ceilingExceeded (omega arith) (second-none _ _ (not-refused _ z)))
-
-    ceiling-low : (x : Semaphore) → (if nobodyRunsb caller (runnerOf k) then Statuses.nobodyRuns else ceilingRefusal x b) ≡ 0 → x .count < largestCount
-    unfolding ceilingRefusal
-    ceiling-low x z = let l = ltb-true (x .count) b (unless-none _ Statuses.ceilingExceeded (omega arith) (second-none _ _ (second-none _ _ (not-refused _ z)))) in omega (arith, l, hb)
 
     -- the edits of a call that is not refused
     abbrev pub KnownWords : ℕ → Decoded → Type 0
@@ -351,8 +340,8 @@ module _ (k : Kernel) (W : Worded k) where
         by-number KnownWords n 16 _ _ (λ z. store-words k semaphore (min a 16) _ hb) (
         by-number KnownWords n 17 _ _ (λ z. remove-words k semaphore (min a 16)) (
         by-number KnownWords n 18 _ _ (λ z. take-words k W semaphore (min a 16) noWords b hb) (
-        by-number KnownWords n 19 _ _ (λ z. put-words (min a 16) (put-low (semaphoreAt k (min a 16)) z)) (
-        by-number KnownWords n 20 _ _ (λ z. put-words (min a 16) (ceiling-low (semaphoreAt k (min a 16)) z)) (
+        by-number KnownWords n 19 _ _ (λ z. put-words (min a 16) (put-low (semaphoreAt k (min a 16)) (not-refused _ z))) (
+        by-number KnownWords n 20 _ _ (λ z. put-words (min a 16) (ceiling-low (semaphoreAt k (min a 16)) b hb (not-refused _ z))) (
         by-number KnownWords n 21 _ _ (λ z. rank-words k semaphore (min a 16)) (
         by-number KnownWords n 22 _ _ (λ z. store-words k queue (min a 8) _ (record { size = refl; each = all-replicate Word slots 0 (omega arith) })) (
         by-number KnownWords n 23 _ _ (λ z. remove-words k queue (min a 8)) (

@@ -5,13 +5,16 @@ use Prim.Native.Nat.{ℕ, _≤_, _<_}
 use native.Mathlib.Omega.{arith}
 use lib.ListN.{length}
 use lib.Seq.{set-out}
-use lib.Dec.{eqb}
-use borrow.Author.Tests.{eq-eqb, eqb-true, ne-eqb}
+use lib.Dec.{eqb, ltb}
+use borrow.Author.Tests.{eq-eqb, eqb-true, ne-eqb, ltb-true}
 use Rattle.lines.specs.Logic.{if_then_else_}
 use Rattle.lines.proofs.Laws.Logic.{by-test}
+use Rattle.objects.specs.declared.semaphore.Semaphore.{Semaphore}
 use Rattle.objects.specs.declared.queue.Queue.{Queue}
+use Rattle.objects.specs.Semaphores.{largestCount}
 use Rattle.calls.specs.declared.held.Held.{Held}
-use Rattle.calls.specs.Chains.{unless, firstOf}
+use Rattle.calls.specs.Statuses.{ceilingExceeded}
+use Rattle.calls.specs.Chains.{unless, firstOf, putRefusal, ceilingRefusal}
 use Rattle.kernel.specs.declared.Kernel.{Kernel}
 use Rattle.kernel.specs.Tables.{withHeld, withQueue}
 use Rattle.kernel.specs.Answers.{refused}
@@ -46,6 +49,17 @@ pub unless-none : (b : Bool) (status : ℕ) → 0 < status → unless b status �
 unfolding unless
 unless-none true status h e = refl
 unless-none false status h e = absurd (let z : status ≡ 0 = e in omega (arith, h, z))
+
+-- a put that is not refused, with or without a ceiling of 32 bits, finds room in the count
+pub put-low : (x : Semaphore) → putRefusal x ≡ 0 → x .count < largestCount
+unfolding putRefusal
+put-low x z = ltb-true (x .count) largestCount (unless-none _ ceilingExceeded (omega arith) (second-none _ _ z))
+
+pub ceiling-low : (x : Semaphore) (ceiling : ℕ) → ceiling < 4294967296 → ceilingRefusal x ceiling ≡ 0 → x .count < largestCount
+unfolding ceilingRefusal
+ceiling-low x ceiling h z =
+    let l = ltb-true (x .count) ceiling (unless-none (ltb (x .count) ceiling) ceilingExceeded (omega arith) (second-none _ _ (second-none _ _ z))) in
+    omega (arith, h, l)
 
 -- ---- past the table nothing is stored
 pub held-out : (k : Kernel) (t : ℕ) (h : Held) → length (k .held) ≡ 32 → 32 ≤ t → withHeld k t h ≡ k

@@ -1,18 +1,18 @@
 use borrow.Author.Needs.{needs}
 use mathlib.Core.Path.{_≡_, refl, sym, ap, _∙_}
 use mathlib.Core.Bool.{true}
-use lib.Dec.{ltb}
 use Prim.Native.Nat.{ℕ, _<_}
 use native.Mathlib.Omega.{arith}
-use borrow.Author.Tests.{ltb-true, lt-ltb}
+use borrow.Author.Tests.{lt-ltb}
 use Rattle.objects.specs.declared.semaphore.Semaphore.{Semaphore}
 use Rattle.objects.specs.Semaphores.{largestCount}
-use Rattle.calls.specs.Statuses.{semaphoreError, ceilingExceeded}
+use Rattle.calls.specs.Statuses.{semaphoreError}
 use Rattle.calls.specs.Chains.{unless, firstOf, putRefusal, ceilingRefusal}
 use Rattle.kernel.specs.Tables.{semaphoreAt}
 use Rattle.kernel.specs.Answers.{answerOf}
 use Rattle.kernel.specs.Semaphores.{putEffect}
-use Rattle.kernel.proofs.Laws.Answers.{is-carried, first-none, second-none, unless-none}
+use Rattle.kernel.proofs.Laws.Answers.{is-carried, ceiling-low}
+use Rattle.kernel.proofs.Laws.Effects.{is-true}
 use Rattle.kernel.proofs.Laws.Arms.{refused-by}
 use Rattle.kernel.proofs.Kernel.semaphore_ceiling_put.Statement.{statement}
 use Rattle.kernel.proofs.Kernel.semaphore_ceiling_put.Tie as tie
@@ -23,17 +23,14 @@ module _ (k : tie.After-ceiling-put) where
   unfolding semaphoreAt
   reason = rw (← k .before .semaphore-in .ensures) (k .ceiling-put .ensures)
 
--- a count below a ceiling is below the largest
+-- where a ceiling put is not refused, a put is not
 put-fine : (x : Semaphore) → x .created ≡ true → x .count < largestCount → putRefusal x ≡ 0
 unfolding putRefusal unless firstOf
 put-fine x made low = rw (made, lt-ltb (x .count) largestCount low) refl
 
 both-fine : (x : Semaphore) (ceiling : ℕ) → ceiling < 4294967296 → ceilingRefusal x ceiling ≡ 0 → putRefusal x ≡ 0
 unfolding ceilingRefusal
-both-fine x ceiling h z =
-    let made = unless-none (x .created) semaphoreError (omega arith) (first-none _ _ z) in
-    let l = ltb-true (x .count) ceiling (unless-none (ltb (x .count) ceiling) ceilingExceeded (omega arith) (second-none _ _ (second-none _ _ z))) in
-    put-fine x made (omega (arith, h, l))
+both-fine x ceiling h z = put-fine x (is-true (x .created) semaphoreError _ (omega arith) z) (ceiling-low x ceiling h z)
 
 returns-2 : tie.Need-returns-2
 returns-2 c =

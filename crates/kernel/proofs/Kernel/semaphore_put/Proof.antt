@@ -5,11 +5,11 @@ use mathlib.Core.Path.{_≡_, sym, ap, _∙_}
 use mathlib.Core.Logic.{⊎-elim}
 use Prim.Native.Nat.{_<_}
 use native.Mathlib.Omega.{arith}
-use borrow.Author.Tests.{ltb-true, lt-ltb, le-ltb}
+use borrow.Author.Tests.{lt-ltb, le-ltb}
 use Rattle.scheduler.specs.Orders.{firstAt}
 use Rattle.calls.specs.Held.{noWords}
 use Rattle.objects.specs.Semaphores.{largestCount}
-use Rattle.calls.specs.Statuses.{success, ceilingExceeded}
+use Rattle.calls.specs.Statuses.{success}
 use Rattle.calls.specs.Chains.{putRefusal}
 use Rattle.kernel.specs.Tables.{semaphoreAt, withScheduler, withHeld, withSemaphore}
 use Rattle.kernel.specs.Answers.{answerOf}
@@ -17,7 +17,7 @@ use Rattle.kernel.specs.Loops.{answered}
 use Rattle.kernel.specs.Edits.{statusBy, recordBy, heldBy, frontb, edited, applied, gathered, endsb, statusOf, carriedOut, guarded}
 use Rattle.kernel.specs.Effects.{storeEffect, serveEffect, giveEffect}
 use Rattle.kernel.specs.Semaphores.{putEffect}
-use Rattle.kernel.proofs.Laws.Answers.{is-carried, second-none, unless-none}
+use Rattle.kernel.proofs.Laws.Answers.{is-carried, put-low}
 use Rattle.kernel.proofs.Laws.Arms.{refused-by}
 use Rattle.kernel.proofs.Kernel.semaphore_put.Statement.{statement}
 use Rattle.kernel.proofs.Kernel.semaphore_put.Tie as tie
@@ -30,8 +30,7 @@ module _ (k : tie.After-put) where
 
   -- where it is none, one more fits the count
   low : k .put .result ≡ 0 → k .before .semaphore-in .result .count < largestCount
-  unfolding putRefusal
-  low z = ltb-true _ largestCount (unless-none _ ceilingExceeded (omega arith) (second-none _ _ (sym (k .put .ensures) ∙ z)))
+  low z = put-low _ (sym (k .put .ensures) ∙ z)
 
 returns-2 : tie.Need-returns-2
 unfolding carriedOut applied gathered statusOf answerOf answered withScheduler edited recordBy heldBy frontb endsb joined withHeld statusBy woken putEffect giveEffect serveEffect storeEffect withSemaphore semaphoreAt
