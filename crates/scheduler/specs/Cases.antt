@@ -42,7 +42,11 @@ preempted = resumes (resumes (resumes idle 0 10 5) 1 10 10) 2 4 4
 -- two marked: 0 of priority 10 and threshold 3, replaced by 4, and 1 of priority 8 and threshold 6, which runs once 4 has lowered itself,
 -- replaced by 2; 3 of priority 5 is ready
 unfoldable pub twice : Scheduler
-twice = resumes (resumes (changesThreshold (changesPriority (resumes (resumes (resumes idle 0 10 3) 4 2 2) 1 8 6) 4 20) 4 20) 2 2 2) 3 5 5
+twice = resumes (resumes (changesPriority (resumes (resumes (resumes idle 0 10 3) 4 2 2) 1 8 6) 4 20) 2 2 2) 3 5 5
+
+-- runner 0 of priority 5 and threshold 2 is lowered to 10, where 1 stands already, while 2 of priority 7 is ready
+unfoldable pub lowered : Scheduler
+lowered = changesPriority (resumes (resumes (resumes idle 0 5 2) 1 10 10) 2 7 7) 0 10
 
 -- rules 4.2 to 4.6, 6.6, 15.16: the cases
 pub record Cases : Type 0 where
@@ -53,7 +57,7 @@ pub record Cases : Type 0 where
       × (threadAt (finishes preempted) 0 .marked ≡ false)
   -- rule 4.3: marked also where its own call lets the other one by, by the threshold after the call
   pub ownCall : (runner (changesThreshold unreplaced 0 8) ≡ 1) × (threadAt (changesThreshold unreplaced 0 8) 0 .marked ≡ true)
-  -- rule 4.2: while the runner is ready and did not relinquish, marks are not asked: 2, now of priority 6 and threshold 4, goes on
+  -- rule 4.2: while the runner is ready and did not relinquish, marks are not asked: 2, now of priority 6, goes on though 0 has threshold 5
   pub notAsked : runner (changesPriority preempted 2 6) ≡ 2
   -- rule 4.4: a marked thread that must give way stays marked
   pub givesWay : (runner (finishes (resumes preempted 3 4 4)) ≡ 3)
@@ -66,12 +70,18 @@ pub record Cases : Type 0 where
   -- rule 6.6: priority change moves a ready thread to the end of its order also at the same priority, the runner too, which goes on
   pub toTheEnd : (lineAt (changesPriority (finishes plain) 0 10) (readyAt 10) ≡ 1 ∷ 0 ∷ [])
       × (runner (changesPriority (finishes plain) 0 10) ≡ 0)
-  -- rules 4.3, 4.5: a mark lasts while the threshold stays below the priority, so that the runner need not be first in its order
-  pub survives : (threadAt (changesPriority preempted 0 10) 0 .marked ≡ true)
-      × (runner (finishes (changesPriority preempted 0 10)) ≡ 0)
-      × (lineAt (finishes (changesPriority preempted 0 10)) (readyAt 10) ≡ 1 ∷ 0 ∷ [])
-  -- rule 4.5: it ends where the threshold equals the priority; lowering a threshold never marks
-  pub ends : (threadAt (changesPriority preempted 0 5) 0 .marked ≡ false)
+  -- rules 4.2, 4.3, 6.6: a lowered runner gives way at once, is not marked, and stands behind the equal that was there, which then runs first
+  pub gaveWay : (runner lowered ≡ 2) × (threadAt lowered 0 .marked ≡ false) × (lineAt lowered (readyAt 10) ≡ 1 ∷ 0 ∷ [])
+      × (runner (finishes lowered) ≡ 1)
+  -- rule 6.6: an equal does not replace a lowered runner
+  pub equal : runner (changesPriority (resumes (resumes idle 0 5 5) 1 10 10) 0 10) ≡ 0
+  -- rule 6.6: a threshold below the priority is given up, also where the priority stays
+  pub givenUp : runner (changesPriority unreplaced 0 10) ≡ 1
+  -- rule 4.5: a mark lasts while the threshold stays below the priority; lowering a threshold never marks
+  pub lasts : (threadAt (changesThreshold preempted 0 9) 0 .marked ≡ true) × (runner (finishes (changesThreshold preempted 0 9)) ≡ 0)
       × (threadAt (changesThreshold preempted 1 3) 1 .marked ≡ false)
+  -- rules 4.5, 6.6: it ends where the threshold equals the priority, so with every priority change, also to the same one
+  pub ends : (threadAt (changesThreshold preempted 0 10) 0 .marked ≡ false) × (threadAt (changesPriority preempted 0 12) 0 .marked ≡ false)
+      × (threadAt (changesPriority preempted 0 10) 0 .marked ≡ false) × (runner (finishes (changesPriority preempted 0 10)) ≡ 1)
   -- rule 4.4: with nobody ready, nobody runs
   pub idle : runner (finishes (resumes idle 0 10 10)) ≡ nobody

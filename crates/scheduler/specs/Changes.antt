@@ -1,6 +1,6 @@
 -- Priority change and preemption change (rules 6.6, 6.7). The choice that follows is not part of them.
 use mathlib.Core.Bool.{_&&_}
-use Prim.Native.Nat.{ℕ, min}
+use Prim.Native.Nat.{ℕ}
 use lib.Dec.{ltb}
 use Rattle.lines.specs.Logic.{if_then_else_}
 use Rattle.scheduler.specs.declared.thread.Thread.{Thread}
@@ -22,13 +22,16 @@ withLevels p h th =
       ticks = th .ticks;
     }
 
--- rule 6.6: another priority, and the smaller of it and the old threshold for a threshold; a ready thread joins the end of its new order,
--- any other keeps its place
+-- rule 6.6: another priority, which is the threshold too
+abbrev pub withPriority : ℕ → Thread → Thread
+withPriority p th = withLevels p p th
+
+-- rule 6.6: a ready thread joins the end of its new order, any other keeps its place
 unfoldable pub priorityChanged : Scheduler → ℕ → ℕ → Scheduler
 priorityChanged s t p =
     if readyb (threadAt s t)
-    then moved s t (withLevels p (min (threadAt s t .threshold) p) (threadAt s t))
-    else withThread s t (withLevels p (min (threadAt s t .threshold) p) (threadAt s t))
+    then moved s t (withPriority p (threadAt s t))
+    else withThread s t (withPriority p (threadAt s t))
 
 -- rule 6.7: another threshold, and no place changes
 unfoldable pub preemptionChanged : Scheduler → ℕ → ℕ → Scheduler

@@ -2,7 +2,7 @@
 use mathlib.Core.Path.{_≡_}
 use mathlib.Core.List.{List, _∷_, _++_}
 use mathlib.Core.Bool.{Bool, true, false}
-use Prim.Native.Nat.{ℕ, _<_, _≤_, min}
+use Prim.Native.Nat.{ℕ, _<_, _≤_}
 use lib.ListN.{length}
 use Rattle.lines.specs.Logic.{oneIf}
 use Rattle.numbers.specs.Numbers.{threads, nobody, priorities}
@@ -25,8 +25,19 @@ use Rattle.scheduler.specs.Orders.{
   prioritisedAt,
 }
 use Rattle.scheduler.specs.Choice.{rescheduled, relinquished}
-use Rattle.scheduler.specs.Changes.{withLevels, priorityChanged, preemptionChanged}
+use Rattle.scheduler.specs.Changes.{withPriority, priorityChanged, preemptionChanged}
 use Rattle.scheduler.specs.Sound.{fitb, soundb, Steady, Sound}
+
+-- rule 6.6: what priority change of thread t of s to p leaves, once the choice is made: its priority and its threshold are p, and it has no
+-- mark. If it ran, it gives way where another ready thread is better than p, and then one of the best of them runs; else it goes on,
+-- beside equals too
+pub record Reprioritised (s : Scheduler) (t p : ℕ) (x : Scheduler) : Type 0 where
+  pub priority : priorityAt x t ≡ p
+  pub threshold : thresholdAt x t ≡ p
+  pub unmarked : threadAt x t .marked ≡ false
+  pub givesWay : runner s ≡ t → (u : ℕ) → (u ≡ t → ⊥) → readyb (threadAt s u) ≡ true → priorityAt s u < p
+      → (runner x ≡ t → ⊥) × (priorityAt x (runner x) ≤ priorityAt s u)
+  pub goesOn : runner s ≡ t → ((u : ℕ) → (u ≡ t → ⊥) → readyb (threadAt s u) ≡ true → p ≤ priorityAt s u) → runner x ≡ t
 
 -- rules 4.8, 5.8, 6.6, 6.7, 12.1, 12.9: what is claimed
 pub record Claims : Type 0 where
@@ -65,9 +76,12 @@ pub record Claims : Type 0 where
   -- rule 6.6: priority change moves a ready thread to the end of its new order; a thread that is not ready keeps its place
   pub priorityLine : (s : Scheduler) → Steady s → (t p : ℕ) → t < nobody → threadAt s t .created ≡ true → p < priorities
       → readyb (threadAt s t) ≡ true → (q : Place) → lineAt (priorityChanged s t p) q
-      ≡ without t (lineAt s q) ++ onlyIf (placedb q (withLevels p (min (thresholdAt s t) p) (threadAt s t))) t
+      ≡ without t (lineAt s q) ++ onlyIf (placedb q (withPriority p (threadAt s t))) t
   pub priorityKept : (s : Scheduler) → Steady s → (t p : ℕ) → t < nobody → threadAt s t .created ≡ true → readyb (threadAt s t) ≡ false
       → (q : Place) → lineAt (priorityChanged s t p) q ≡ lineAt s q
+  -- rule 6.6: what it makes of the thread's levels, of its mark, and of a runner
+  pub reprioritised : (s : Scheduler) → Sound s → (t p : ℕ) → t < nobody → threadAt s t .created ≡ true → p < priorities
+      → Reprioritised s t p (rescheduled (priorityChanged s t p) false)
   -- rule 6.7: preemption change moves nobody, and neither does the choice
   pub preemptionLine : (s : Scheduler) → Steady s → (t h : ℕ) → t < nobody → threadAt s t .created ≡ true
       → (q : Place) → lineAt (preemptionChanged s t h) q ≡ lineAt s q

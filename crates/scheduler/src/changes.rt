@@ -1,16 +1,9 @@
 // Priority change and preemption change.
 ghost use mathlib.Core.Path.{_≡_};
-ghost use Prim.Native.Nat.{min};
 ghost use Rattle.scheduler.specs.Changes.{withLevels, priorityChanged, preemptionChanged};
 use super::Scheduler;
 use super::thread::Thread;
 use numbers::ThreadId;
-
-fn smaller(a: u8, b: u8) -> u8
-    ensures { λ r. ⌜ r ≡ min a b ⌝ }
-{
-    if a < b { a } else { b }
-}
 
 impl Thread {
     // Another priority and threshold; a mark lasts while the threshold is below the priority.
@@ -25,12 +18,12 @@ impl Thread {
 }
 
 impl Scheduler {
-    // A ready thread joins the end of its new priority's order, the threshold is at most the new priority.
+    // The threshold is the new priority too. A ready thread joins the end of its new order, any other keeps its place.
     pub fn priority_changed(self, t: ThreadId, priority: u8) -> Scheduler
         ensures { λ r. ⌜ r ≡ priorityChanged self (t .0) priority ⌝ }
     {
         let old = self.thread_at(t);
-        let th = old.with_levels(priority, smaller(old.threshold, priority));
+        let th = old.with_levels(priority, priority);
         if old.is_ready() {
             return self.moved(t, th);
         }

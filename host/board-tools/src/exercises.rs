@@ -15,8 +15,8 @@ pub struct StudentError {
     pub title: &'static str,
 }
 
-/// The four student errors.
-pub const STUDENT_ERRORS: [StudentError; 4] = [
+/// The five student errors.
+pub const STUDENT_ERRORS: [StudentError; 5] = [
     StudentError {
         fault: fault::FLAGS_ALREADY_CLEARED,
         name: "flags-already-cleared",
@@ -37,6 +37,11 @@ pub const STUDENT_ERRORS: [StudentError; 4] = [
         name: "threshold-forgotten",
         title: "forgetting the interrupted threshold",
     },
+    StudentError {
+        fault: fault::LOWERED_RUNNER_STAYS,
+        name: "lowered-runner-stays",
+        title: "letting a lowered runner go on",
+    },
 ];
 
 /// One call by a kernel with the given student error, or by the right one.
@@ -54,6 +59,9 @@ fn step(tables: &mut Tables, fault: u8, record: &Record, area: &[u32]) -> Outcom
         }
         fault::THRESHOLD_FORGOTTEN => {
             tables.step_numbered::<{ fault::THRESHOLD_FORGOTTEN }>(call, caller, args, area)
+        }
+        fault::LOWERED_RUNNER_STAYS => {
+            tables.step_numbered::<{ fault::LOWERED_RUNNER_STAYS }>(call, caller, args, area)
         }
         _ => tables.step_numbered::<{ fault::NONE }>(call, caller, args, area),
     }

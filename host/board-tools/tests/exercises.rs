@@ -59,6 +59,12 @@ fn threshold_forgotten() {
 }
 
 #[test]
+fn lowered_runner_stays() {
+    let name = "lowered-runner-stays";
+    assert_shows(fault::LOWERED_RUNNER_STAYS, name, (0, Some(1), 0), (0, Some(0), 0));
+}
+
+#[test]
 fn each_exercise_shows_its_own_error_only() {
     for shown in STUDENT_ERRORS {
         let tape = exercise(shown.name);

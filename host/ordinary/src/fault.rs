@@ -14,3 +14,6 @@ pub const LINE_SORTED: u8 = 2;
 pub const LATE_GET_SERVED: u8 = 3;
 /// A preempted thread's threshold is forgotten: nobody is ever marked.
 pub const THRESHOLD_FORGOTTEN: u8 = 4;
+/// Nobody is chosen after a change of the runner's own priority, so a lowered
+/// runner goes on while a better thread is ready.
+pub const LOWERED_RUNNER_STAYS: u8 = 5;

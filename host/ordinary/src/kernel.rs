@@ -122,7 +122,9 @@ impl Tables {
         match self.serve::<FAULT>(caller, call, area) {
             Err(status) => Outcome::refused(status, before),
             Ok(Reply { status, words, ended }) => {
-                self.choose_next::<FAULT>(call == Call::ThreadRelinquish);
+                if !leaves_out_choice::<FAULT>(call, before) {
+                    self.choose_next::<FAULT>(call == Call::ThreadRelinquish);
+                }
                 Outcome { status, words, next: self.runner(), ended }
             }
         }
@@ -199,6 +201,14 @@ impl Tables {
             Call::ReadWords { thread } => self.read_words(thread),
         }
     }
+}
+
+/// Whether no thread is chosen after a call: only a student error leaves the
+/// choice out.
+#[inline]
+fn leaves_out_choice<const FAULT: u8>(call: Call, runner: Option<ThreadNo>) -> bool {
+    FAULT == fault::LOWERED_RUNNER_STAYS
+        && matches!(call, Call::ThreadPriorityChange { thread, .. } if Some(thread) == runner)
 }
 
 /// Refuses callers that are not a thread.

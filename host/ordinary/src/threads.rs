@@ -180,11 +180,11 @@ impl Tables {
         }
         let record = &mut self.threads[index];
         record.priority = priority as u8;
-        record.threshold = record.threshold.min(priority as u8);
+        record.threshold = priority as u8;
         if ready {
             self.make_ready(index);
         }
-        self.unmark_without_threshold(index);
+        self.unmark(index);
         Ok(Reply::word(old as u32))
     }
 

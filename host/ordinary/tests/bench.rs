@@ -133,6 +133,24 @@ fn p10_ceiling() {
 }
 
 #[test]
+fn a_lowered_runner_gives_way_at_once() {
+    let mut board = Board::new();
+    board.ok(STARTUP, 1, &[0, 5, 5, 1]);
+    board.ok(STARTUP, 1, &[1, 7, 7, 1]);
+    assert_eq!(board.ok(THREAD, 11, &[0, 10]).next.unwrap().0, 1);
+    assert!(!board.marked(0));
+}
+
+#[test]
+fn a_raised_runner_gives_up_its_threshold() {
+    let mut board = Board::new();
+    board.ok(STARTUP, 1, &[0, 10, 3, 1]);
+    assert_eq!(board.ok(STARTUP, 1, &[1, 5, 5, 1]).next.unwrap().0, 0);
+    assert_eq!(board.ok(THREAD, 11, &[0, 8]).next.unwrap().0, 1);
+    assert!(!board.marked(0));
+}
+
+#[test]
 fn a_timed_get_that_runs_out_holds_no_instance() {
     let mut board = Board::new();
     board.thread(0, 10);

@@ -125,11 +125,10 @@ fn only_the_best_marked_thread_is_asked() {
     // 0 has the strong threshold but a worse priority than 1.
     ready(&mut board, 0, 20, 2);
     ready(&mut board, 1, 1, 1); // replaces 0, marked
-    ready(&mut board, 2, 10, 10);
-    board.ok(THREAD, 12, &[1, 0]);
+    board.ok(THREAD, 11, &[1, 12]); // nobody better is ready: still running
+    board.ok(THREAD, 12, &[1, 11]);
     ready(&mut board, 3, 15, 15);
-    board.ok(THREAD, 11, &[1, 12]); // threshold stays 0, still running
-    board.ok(THREAD, 12, &[1, 11]); // now 10 preempts it: 1 is marked
+    ready(&mut board, 2, 10, 10); // replaces 1, marked
     assert_eq!(board.runner(), Some(2));
     assert_eq!(board.tables.marked, 0b11);
     // 10 finishes: best ready is 12 (thread 1 itself), marked best is 1.
@@ -204,21 +203,123 @@ fn relinquish_asks_the_marked() {
 }
 
 #[test]
-fn a_mark_survives_changes_while_the_threshold_stays_below() {
+fn a_mark_survives_while_the_threshold_stays_below() {
     let mut board = Board::new();
     ready(&mut board, 0, 10, 5);
     ready(&mut board, 1, 4, 4);
     assert!(board.marked(0));
-    board.ok(THREAD, 11, &[0, 12]);
+    board.ok(THREAD, 12, &[0, 9]);
     assert!(board.marked(0));
-    assert_eq!(board.tables.threads[0].threshold, 5);
-    board.ok(THREAD, 12, &[0, 7]);
-    assert!(board.marked(0));
-    board.ok(THREAD, 11, &[0, 6]); // threshold becomes 6: no mark
+    board.ok(THREAD, 12, &[0, 10]);
     assert!(!board.marked(0));
-    assert_eq!(board.tables.threads[0].threshold, 6);
     board.ok(THREAD, 12, &[0, 0]); // lowering never marks
     assert!(!board.marked(0));
+}
+
+#[test]
+fn a_mark_ends_with_every_priority_change() {
+    for priority in 0..32 {
+        let mut board = Board::new();
+        ready(&mut board, 0, 10, 5);
+        ready(&mut board, 1, 0, 0);
+        assert!(board.marked(0));
+        board.ok(THREAD, 11, &[0, priority]);
+        assert_eq!(board.tables.marked, 0, "priority {priority}");
+        assert_eq!(board.runner(), Some(1));
+        assert_eq!(board.ready(priority as usize).last(), Some(&0));
+    }
+}
+
+#[test]
+fn a_priority_change_sets_the_threshold_whatever_it_was() {
+    for threshold in 0..=10 {
+        for priority in 0..32 {
+            let mut board = Board::new();
+            ready(&mut board, 0, 10, threshold);
+            suspended(&mut board, 1, 10, threshold);
+            for thread in 0..2 {
+                let words = board.ok(THREAD, 11, &[thread, priority]).words;
+                assert_eq!(words, padded(&[10]));
+                let record = &board.tables.threads[thread as usize];
+                assert_eq!((record.priority, record.threshold), (priority as u8, priority as u8));
+            }
+        }
+    }
+}
+
+#[test]
+fn a_lowered_runner_gives_way_to_a_better_one_only() {
+    for (priority, next) in [(9, 1), (10, 0), (11, 0)] {
+        let mut board = Board::new();
+        ready(&mut board, 0, 5, 5);
+        ready(&mut board, 1, priority, priority);
+        board.ok(THREAD, 11, &[0, 10]);
+        assert_eq!(board.runner(), Some(next), "priority {priority}");
+        assert_eq!(board.tables.marked, 0);
+    }
+}
+
+#[test]
+fn a_lowered_runner_that_gave_way_has_no_claim_to_return() {
+    let mut board = Board::new();
+    ready(&mut board, 0, 5, 2);
+    ready(&mut board, 1, 10, 10);
+    ready(&mut board, 2, 7, 7);
+    board.ok(THREAD, 11, &[0, 10]);
+    assert_eq!(board.runner(), Some(2));
+    assert_eq!(board.ready(10), [1, 0]);
+    board.ok(THREAD, 7, &[]);
+    assert_eq!(board.runner(), Some(1));
+}
+
+#[test]
+fn a_raised_runner_loses_its_low_threshold() {
+    // The threshold 3 holds off a ready 5. Raised, only the new priority counts.
+    for (priority, next) in [(8, 1), (6, 1), (5, 0), (4, 0)] {
+        let mut board = Board::new();
+        ready(&mut board, 0, 10, 3);
+        ready(&mut board, 1, 5, 5);
+        assert_eq!(board.runner(), Some(0));
+        board.ok(THREAD, 11, &[0, priority]);
+        assert_eq!(board.runner(), Some(next), "priority {priority}");
+    }
+}
+
+#[test]
+fn a_refused_priority_change_changes_nothing() {
+    let mut board = Board::new();
+    ready(&mut board, 0, 10, 3);
+    ready(&mut board, 1, 5, 5);
+    let before = board.tables.clone();
+    for priority in [32, 255, 256, 0x8000_0000, 0xFFFF_FFFF] {
+        board.refused(THREAD, 11, &[0, priority], 0x0F);
+        board.refused(INTERRUPT, 11, &[0, priority], 0x0F);
+    }
+    for thread in [2, 31, 32, 256, 0xFFFF_FFFF] {
+        board.refused(THREAD, 11, &[thread, 8], 0x0E);
+        board.refused(INTERRUPT, 11, &[thread, 32], 0x0E);
+    }
+    for caller in [STARTUP, INTERRUPT] {
+        board.refused(caller, 11, &[0, 31], 0x13);
+    }
+    assert_eq!(board.tables, before);
+}
+
+#[test]
+fn a_waiter_keeps_its_place_in_line() {
+    let mut board = Board::new();
+    board.ok(STARTUP, 16, &[0, 0]);
+    for thread in 0..3 {
+        ready(&mut board, thread, 10, 4);
+        board.wait(18, &[0, FOREVER]);
+    }
+    ready(&mut board, 3, 20, 20);
+    board.ok(THREAD, 11, &[0, 15]);
+    board.ok(THREAD, 11, &[2, 1]);
+    let line = board.semaphore_line(0);
+    assert_eq!(line, [0, 1, 2]);
+    assert_eq!(board.tables.threads[0].threshold, 15);
+    assert_eq!(board.tables.threads[2].threshold, 1);
 }
 
 #[test]
@@ -226,8 +327,9 @@ fn changes_answer_the_old_values_in_any_state() {
     let mut board = Board::new();
     suspended(&mut board, 0, 10, 5);
     ready(&mut board, 1, 1, 1);
+    assert_eq!(board.ok(THREAD, 12, &[0, 6]).words, padded(&[5]));
     assert_eq!(board.ok(THREAD, 11, &[0, 8]).words, padded(&[10]));
-    assert_eq!(board.ok(THREAD, 12, &[0, 8]).words, padded(&[5]));
+    assert_eq!(board.ok(THREAD, 12, &[0, 7]).words, padded(&[8]));
     board.ok(THREAD, 5, &[0]);
     assert_eq!(board.ok(THREAD, 11, &[0, 3]).words, padded(&[8]));
     assert_eq!(board.ok(THREAD, 12, &[0, 3]).words, padded(&[3]));

@@ -6,10 +6,10 @@ use Rattle.scheduler.specs.Threads.{uncreated, created, inState, readyb,
 use Rattle.scheduler.specs.Orders.{threadAt, lineAt, withThread, withOrder, withRunner, idle, moved}
 use Rattle.scheduler.specs.Choice.{bestAmong, bestReady, bestMarked, staysb, overtakesb, nextOf, withMark, replaced, dispatched, rescheduled, relinquished}
 use Rattle.scheduler.specs.Changes.{withLevels, priorityChanged, preemptionChanged}
-use Rattle.scheduler.specs.Cases.{resumes, finishes, changesPriority, changesThreshold, unreplaced, plain, preempted, twice, Cases}
+use Rattle.scheduler.specs.Cases.{resumes, finishes, changesPriority, changesThreshold, unreplaced, plain, preempted, twice, lowered, Cases}
 
 pub cases : Cases
-unfolding resumes finishes changesPriority changesThreshold unreplaced plain preempted twice created inState filter without first firstWith leastb bestOf members pad lineOf uncreated readyb waitsb markedb standsb numberOf placedb threadAt lineAt withThread withOrder withRunner idle moved bestAmong bestReady bestMarked staysb overtakesb nextOf withMark replaced dispatched rescheduled relinquished withLevels priorityChanged preemptionChanged
+unfolding resumes finishes changesPriority changesThreshold unreplaced plain preempted twice lowered created inState filter without first firstWith leastb bestOf members pad lineOf uncreated readyb waitsb markedb standsb numberOf placedb threadAt lineAt withThread withOrder withRunner idle moved bestAmong bestReady bestMarked staysb overtakesb nextOf withMark replaced dispatched rescheduled relinquished withLevels priorityChanged preemptionChanged
 cases =
     record {
       keepsPlace = (refl, refl);
@@ -20,7 +20,10 @@ cases =
       oneAsked = (refl, refl, refl);
       relinquish = (refl, refl, refl);
       toTheEnd = (refl, refl);
-      survives = (refl, refl, refl);
-      ends = (refl, refl);
+      gaveWay = (refl, refl, refl, refl);
+      equal = refl;
+      givenUp = refl;
+      lasts = (refl, refl, refl);
+      ends = (refl, refl, refl, refl);
       idle = refl;
     }

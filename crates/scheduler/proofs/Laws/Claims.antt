@@ -55,6 +55,7 @@ claims =
       prioritisedElsewhere = Orders.prioritised-other;
       priorityLine = λ s S t p l c h r. Changing.priority-line s S t l c p h r;
       priorityKept = λ s S t p l c r. Changing.priority-kept s S t l c p r;
+      reprioritised = λ s S t p l c h. Changing.reprioritised s S t p l c h;
       preemptionLine = λ s S t h l c. Changing.preemption-line s S t l c h;
       choiceLine = Choosing.rescheduled-line;
       movedBegins = Fairness.moved-begins;

@@ -1,7 +1,7 @@
 -- Laws of a thread's record in another state, and of what a change leaves as it is.
 use mathlib.Core.Path.{_≡_, refl, ap, _∙_}
 use mathlib.Core.Bool.{Bool, true, false, _&&_, _||_}
-use Prim.Native.Nat.{ℕ, _≤_, _<_, min}
+use Prim.Native.Nat.{ℕ, _≤_, _<_}
 use native.Mathlib.Omega.{arith}
 use lib.Dec.{eqb, ltb, leb}
 use borrow.Author.Tests.{ltb-true, ltb-false, lt-ltb, le-ltb, le-leb, eq-eqb, ne-eqb}
@@ -15,7 +15,6 @@ use Rattle.scheduler.specs.declared.thread.Place.{Place}
 use Rattle.scheduler.specs.declared.Scheduler.{Scheduler}
 use Rattle.scheduler.specs.Threads.{uncreated, readyb, sleepsb, waitsb, pausedb, placedb, inState, atRest, awake, withSuspension, created}
 use Rattle.scheduler.specs.Orders.{threadAt, lineAt, firstAt, withThread, withOrder, moved}
-use Rattle.scheduler.specs.Changes.{withLevels, priorityChanged}
 use Rattle.scheduler.specs.Sound.{limitsb, markFitb, suspensionFitb, ticksFitb, objectFitb, zerob, fitb, Steady}
 use Rattle.scheduler.proofs.Laws.Threads.{none-at, placed-stands, fit-parts, fit-from, fit-low, fit-threshold}
 use Rattle.scheduler.proofs.Laws.Orders
@@ -139,15 +138,3 @@ none-placed-there s S p n t =
 pub moved-all : (s : Scheduler) → Steady s → (t : ℕ) (th : Thread) → t < 32 → {X : Type 0} (g : Thread → X) → g th ≡ g (threadAt s t) → (u : ℕ) → g (threadAt (moved s t th) u) ≡ g (threadAt s u)
 unfolding moved withOrder threadAt
 moved-all s S t th small g h u = Orders.kept-all s S t th small g h u
-
--- a priority change keeps what does not read priority, threshold and mark
-pub priority-keeps : (s : Scheduler) → Steady s → (t p : ℕ) → t < 32 → {X : Type 0} (g : Thread → X)
-    → ((a b : ℕ) (th : Thread) → g (withLevels a b th) ≡ g th) → (u : ℕ) → g (threadAt (priorityChanged s t p) u) ≡ g (threadAt s u)
-unfolding priorityChanged
-priority-keeps s S t p small g h u =
-    by-choice (λ (x : Scheduler). g (threadAt x u) ≡ g (threadAt s u)) (readyb (threadAt s t)) (moved s t lowered) (withThread s t lowered)
-    (λ e. moved-all s S t lowered small g (h p (min (threadAt s t .threshold) p) (threadAt s t)) u)
-    (λ e. Orders.kept-all s S t lowered small g (h p (min (threadAt s t .threshold) p) (threadAt s t)) u)
-  where
-    lowered : Thread
-    lowered = withLevels p (min (threadAt s t .threshold) p) (threadAt s t)

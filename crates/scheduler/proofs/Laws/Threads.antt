@@ -169,6 +169,16 @@ module _ (th : Thread) (fit : fitb th ≡ true) where
   pub fit-threshold : th .threshold ≤ th .priority
   fit-threshold = levels .2
 
+  -- with a threshold equal to its priority it has no mark
+  pub fit-unmarked : th .priority ≤ th .threshold → th .marked ≡ false
+  unfolding markFitb
+  fit-unmarked h =
+      by-test (th .created)
+      (λ e. by-test (th .marked)
+      (λ m. absurd (let l = ltb-true (th .threshold) (th .priority) (and-right (readyb th) (ltb (th .threshold) (th .priority)) (implies-out (th .marked) (readyb th && ltb (th .threshold) (th .priority)) (fit-parts th e fit .1) m)) in omega (arith, l, h)))
+      (λ m. m))
+      (λ e. zero-unmarked th (sym (fit-uncreated th e) ∙ fit))
+
 -- ---- marks
 -- a mark that is there already
 same-mark : (b : Bool) (th : Thread) → th .marked ≡ b → withMark b th ≡ th
