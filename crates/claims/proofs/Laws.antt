@@ -12,3 +12,4 @@ pub mod Claims
 pub mod Puts
 pub mod Accounts
 pub mod Cases
+pub mod Priorities

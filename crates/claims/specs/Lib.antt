@@ -3,3 +3,4 @@ pub mod Rolls
 pub mod Cases
 pub mod Witnesses
 pub mod Accounts
+pub mod Priorities

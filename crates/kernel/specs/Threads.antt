@@ -1,12 +1,11 @@
 -- What calls 1 to 12, 38 and 39 do.
 use mathlib.Core.List.{[], _∷_}
 use mathlib.Core.Bool.{true, false}
-use Prim.Native.Nat.{ℕ, min}
+use Prim.Native.Nat.{ℕ}
 use lib.Dec.{eqb}
 use Rattle.lines.specs.Logic.{if_then_else_}
-use Rattle.scheduler.specs.declared.thread.Thread.{Thread}
 use Rattle.scheduler.specs.Threads.{ready, suspended, asleep, uncreated, readyb, pausedb, finishedb, atRest, withSuspension, created}
-use Rattle.scheduler.specs.Changes.{withLevels}
+use Rattle.scheduler.specs.Changes.{withLevels, withPriority}
 use Rattle.calls.specs.declared.held.Held.{Held}
 use Rattle.calls.specs.Held.{noWords, oneWord, twoWords, noHeld, heldWaiting, heldWords}
 use Rattle.kernel.specs.declared.Kernel.{Kernel}
@@ -69,15 +68,12 @@ sleepEffect k ticks = if eqb ticks 0 then does [] else begins k false asleep 0 t
 unfoldable pub abortEffect : ℕ → Effect
 abortEffect t = does (moves t (ends aborted noWords) ∷ [])
 
--- rule 6.6: another priority, and the smaller of it and the old threshold
-abbrev pub lowered : ℕ → Thread → Thread
-lowered p th = withLevels p (min (th .threshold) p) th
-
--- rule 6.6: call 11, priority change: word 0 is the old priority; a ready thread joins the end of its new order, another keeps its place
+-- rule 6.6: call 11, priority change: word 0 is the old priority; priority and threshold are the new one; a ready thread joins the end of
+-- its new order, another keeps its place
 unfoldable pub priorityEffect : Kernel → ℕ → ℕ → Effect
 priorityEffect k t p =
     gives (oneWord (threadOf k t .priority))
-    (if readyb (threadOf k t) then moves t (turns (lowered p) keeps) ∷ [] else alters t (lowered p) ∷ [])
+    (if readyb (threadOf k t) then moves t (turns (withPriority p) keeps) ∷ [] else alters t (withPriority p) ∷ [])
 
 -- rule 6.7: call 12, preemption change: word 0 is the old threshold
 unfoldable pub preemptionEffect : Kernel → ℕ → ℕ → Effect

@@ -28,15 +28,18 @@ use Rattle.scheduler.specs.Choice.{rescheduled, relinquished}
 use Rattle.scheduler.specs.Changes.{withPriority, priorityChanged, preemptionChanged}
 use Rattle.scheduler.specs.Sound.{fitb, soundb, Steady, Sound}
 
--- rule 6.6: what priority change of thread t of s to p leaves, once the choice is made: its priority and its threshold are p, and it has no
--- mark. If it ran, it gives way where another ready thread is better than p, and then one of the best of them runs; else it goes on,
--- beside equals too
+-- rule 6.6: what priority change of thread t to p makes of s, once the choice is made
 pub record Reprioritised (s : Scheduler) (t p : ℕ) (x : Scheduler) : Type 0 where
+  -- its priority and its threshold are p, and it has no mark
   pub priority : priorityAt x t ≡ p
   pub threshold : thresholdAt x t ≡ p
   pub unmarked : threadAt x t .marked ≡ false
+  -- nobody else's change
+  pub others : (u : ℕ) → (u ≡ t → ⊥) → (priorityAt x u ≡ priorityAt s u) × (thresholdAt x u ≡ thresholdAt s u)
+  -- if it ran, it gives way where another ready thread is better than p, to one at least as good
   pub givesWay : runner s ≡ t → (u : ℕ) → (u ≡ t → ⊥) → readyb (threadAt s u) ≡ true → priorityAt s u < p
       → (runner x ≡ t → ⊥) × (priorityAt x (runner x) ≤ priorityAt s u)
+  -- and goes on where none is, beside equals too
   pub goesOn : runner s ≡ t → ((u : ℕ) → (u ≡ t → ⊥) → readyb (threadAt s u) ≡ true → p ≤ priorityAt s u) → runner x ≡ t
 
 -- rules 4.8, 5.8, 6.6, 6.7, 12.1, 12.9: what is claimed

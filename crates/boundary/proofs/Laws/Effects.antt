@@ -228,7 +228,7 @@ module _ (k : Kernel) where
   priority-words : (t p : ℕ) → EffectWords (priorityEffect k t p)
   unfolding priorityEffect
   priority-words t p =
-      by-choice (All EditWords) (readyb (threadOf k t)) _ _ (λ e. ((levels (λ th. p) (λ th. min (th .threshold) p), keeps-held), tt)) (λ e. (levels (λ th. p) (λ th. min (th .threshold) p), tt))
+      by-choice (All EditWords) (readyb (threadOf k t)) _ _ (λ e. ((levels (λ th. p) (λ th. p), keeps-held), tt)) (λ e. (levels (λ th. p) (λ th. p), tt))
 
   preemption-words : (t h : ℕ) → EffectWords (preemptionEffect k t h)
   unfolding preemptionEffect

@@ -48,7 +48,7 @@ use Rattle.kernel.specs.Tables as KernelTables
 use Rattle.kernel.specs.Views as KernelViews
 use Rattle.claims.specs.Lists.{Made, answer, next, after}
 use Rattle.claims.specs.Rolls as Rolls
-use Rattle.claims.specs.Cases.{called, said, made, withCount, p3a, p3b, waits, p9, asks, p4, p4set, p5, p6, p7, receive, p8, timedOutGet, timedOut, suspendedGet, Cases}
+use Rattle.claims.specs.Cases.{called, said, made, withCount, p3a, p3b, waits, p9, asks, p4, p4set, p5, p6, p7, receive, p8, timedOutGet, timedOut, suspendedGet, reprioritised, Cases}
 use Rattle.claims.specs.Witnesses.{emptied, takeCall, giveCall, queued, waitingOn, refusedCall, beforeLast, Met, Witnesses}
 use Rattle.claims.proofs.Laws.Steps.{next-sound}
 use Rattle.claims.proofs.Laws.Claims.{firstComeFirstServed}
@@ -64,35 +64,46 @@ record Facts (d : Kind) : Type 0 where
   gives : Rolls.givesb d 0 (giveCall d 2) ≡ true
   done : Rolls.succeedsb (answer (after (waitingOn d) (beforeLast d)) (giveCall d 2)) ≡ true
 
--- all that is computed, with the definitions that it takes
-computed : Cases × Facts semaphore × Facts queue × Facts pool
-unfolding called said made withCount p3a p3b waits p9 asks p4 p4set p5 p6 p7 receive p8 timedOutGet timedOut suspendedGet emptied takeCall giveCall queued waitingOn refusedCall beforeLast answer next after Rolls.onb Rolls.givesb Rolls.prioritisesOrDeletesb Rolls.succeedsb Rolls.names Rolls.rollOf Rolls.each Rolls.rest Rolls.unnamed Rolls.ticked Rolls.strikeOut Rolls.rolled Rolls.gave LinesLines.members LinesLines.pad LinesLines.lineOf LinesLines.cleanb LinesLists.numbersFrom LinesLists.filter LinesLists.without LinesLists.toEnd LinesLists.toFront LinesLists.count LinesLists.below LinesLists.first LinesLists.firstWith LinesLists.leastb LinesLists.fronted LinesLists.bestOf LinesLists.prioritised LinesLists.unionOf LinesLogic.oneIf LinesLogic.implies LinesLogic.allBelow LinesSlots.zeroFrom SchedulerChanges.withLevels SchedulerChanges.priorityChanged SchedulerChanges.preemptionChanged SchedulerChoice.bestAmong SchedulerChoice.bestReady SchedulerChoice.bestMarked SchedulerChoice.staysb SchedulerChoice.overtakesb SchedulerChoice.nextOf SchedulerChoice.withMark SchedulerChoice.replaced SchedulerChoice.dispatched SchedulerChoice.rescheduled SchedulerChoice.relinquished SchedulerOrders.threadAt SchedulerOrders.lineAt SchedulerOrders.firstAt SchedulerOrders.withThread SchedulerOrders.withOrder SchedulerOrders.withRunner SchedulerOrders.idle SchedulerOrders.moved SchedulerOrders.movedFront SchedulerOrders.joined SchedulerOrders.woken SchedulerOrders.prioritisedAt SchedulerSound.limitsb SchedulerSound.markFitb SchedulerSound.suspensionFitb SchedulerSound.ticksFitb SchedulerSound.objectFitb SchedulerSound.zerob SchedulerSound.fitb SchedulerSound.countedb SchedulerSound.steadyb SchedulerSound.runsb SchedulerSound.soundb SchedulerThreads.uncreated SchedulerThreads.readyb SchedulerThreads.sleepsb SchedulerThreads.waitsb SchedulerThreads.pausedb SchedulerThreads.markedb SchedulerThreads.standsb SchedulerThreads.numberOf SchedulerThreads.placedb SchedulerThreads.inState SchedulerThreads.awake SchedulerThreads.withSuspension SchedulerThreads.created ObjectsGroups.noGroup ObjectsGroups.groupWith ObjectsGroups.orOptionb ObjectsGroups.someSetb ObjectsGroups.allSetb ObjectsGroups.metb ObjectsGroups.clearsb ObjectsGroups.clearOf ObjectsGroups.lessFlags ObjectsQueues.noQueue ObjectsQueues.capacityOf ObjectsQueues.emptyb ObjectsQueues.fullb ObjectsQueues.roomb ObjectsQueues.usedWords ObjectsQueues.sizesFitb ObjectsQueues.queueLimitsb ObjectsQueues.storeFitb ObjectsQueues.queueZerob ObjectsQueues.queueFitb ObjectsQueues.emptyQueue ObjectsQueues.storedWords ObjectsQueues.storing ObjectsQueues.oldest ObjectsQueues.withoutOldest ObjectsQueues.withLast ObjectsQueues.withFirst ObjectsQueues.withSent ObjectsQueues.givenPast ObjectsQueues.leftPast ObjectsQueues.flushed ObjectsSemaphores.noSemaphore BlocksPools.noPool BlocksPools.blocksOf BlocksPools.freeBlocks BlocksPools.blockSizesb BlocksPools.poolLimitsb BlocksPools.onceb BlocksPools.listingb BlocksPools.listFitb BlocksPools.poolZerob BlocksPools.poolFitb BlocksPools.listing BlocksPools.freshPool BlocksPools.usedb BlocksPools.nextBlock BlocksPools.withoutNext BlocksPools.withFree BlocksPools.blockStart BlocksViews.viewedb BlocksViews.extentOf BlocksViews.viewed BlocksViews.onwards BlocksViews.written BlocksViews.p8 BlocksViews.p8Area CallsCalls.knownCall CallsCalls.decoded CallsHeld.heldWords CallsHeld.messageOf CallsHeld.holding CallsHeld.sending CallsHeld.requesting CallsMessages.messageIn WaitingFit.blankFrom WaitingFit.waitsOnb WaitingFit.sendsb WaitingFit.statusFitb WaitingFit.wordsFitb WaitingFit.senderFitb WaitingFit.requestFitb WaitingFit.unheldFitb WaitingFit.heldFitb WaitingFit.semaphoreWaitb WaitingFit.queueWaitb WaitingFit.groupWaitb WaitingFit.poolWaitb WaitingFit.semaphoresFitb WaitingFit.queuesFitb WaitingFit.groupsFitb WaitingFit.poolsFitb WaitingTicks.timedb WaitingTicks.timeoutStatus WaitingTicks.withTicks KernelAnswers.answerOf KernelAnswers.refused KernelLoops.answered KernelEdits.statusBy KernelEdits.recordBy KernelEdits.heldBy KernelEdits.frontb KernelEdits.edited KernelEdits.applied KernelEdits.gathered KernelEdits.endsb KernelEdits.statusOf KernelEdits.carriedOut KernelEdits.guarded KernelEffects.endsEach KernelEffects.storeEffect KernelEffects.closeEffect KernelEffects.rankEffect KernelEffects.serveEffect KernelEffects.giveEffect KernelEffects.counting KernelEffects.takeEffect KernelThreads.createEffect KernelThreads.deleteEffect KernelThreads.resumeEffect KernelThreads.suspendEffect KernelThreads.terminateEffect KernelThreads.restEffect KernelThreads.relinquishEffect KernelThreads.sleepEffect KernelThreads.abortEffect KernelThreads.priorityEffect KernelThreads.preemptionEffect KernelThreads.stateEffect KernelThreads.wordsEffect KernelClock.clockEffect KernelClock.clockSetEffect KernelClock.tickEffect KernelSemaphores.semaphoreGetEffect KernelSemaphores.putEffect KernelQueues.sendEffect KernelQueues.pastEffect KernelQueues.receiveEffect KernelQueues.flushEffect KernelGroups.wokenBy KernelGroups.clearsBy KernelGroups.setOrEffect KernelGroups.setEffect KernelGroups.flagsGetEffect KernelPools.allocateEffect KernelPools.releaseEffect CallsCallers.allowedb KernelRoles.limitOf KernelRefusals.refusals KernelRefusals.firstReason KernelRefusals.reasonOf KernelGeneral.effectOf KernelGeneral.stepOf KernelGeneral.step KernelGeneral.unsound KernelGeneral.call KernelSound.waitFitb KernelSound.soundb KernelTables.started KernelTables.heldAt KernelTables.semaphoreAt KernelTables.queueAt KernelTables.groupAt KernelTables.poolAt KernelTables.withScheduler KernelTables.withHeld KernelTables.withSemaphore KernelTables.withQueue KernelTables.withGroup KernelTables.withPool KernelTables.withClock KernelViews.viewedPool KernelViews.blockExtent KernelViews.blockView KernelViews.blockWritten KernelClock.nextTime KernelClock.countsEach KernelClock.ticksTaken KernelClock.timeouts WaitingTicks.atZerob
-computed = (
-  record {
-    p1 = refl;
-    p2 = (refl, refl);
-    p2done = (refl, refl);
-    p3 = (refl, refl, refl);
-    p3mark = (refl, refl, refl);
-    p4ended = refl;
-    p4ready = (refl, refl);
-    p4status = (refl, refl);
-    p4held = (refl, refl);
-    p4flags = refl;
-    p4line = refl;
-    p5 = refl;
-    p6 = (refl, refl, refl, refl);
-    p7 = (refl, refl, refl);
-    p8blocks = refl;
-    p8view = refl;
-    p8released = (refl, refl);
-    p9line = refl;
-    p10 = (refl, refl);
-    timeout = refl;
-    interruptWait = refl;
-    timeouts = (refl, refl, refl, refl, refl, refl);
-    suspendedServed = (refl, refl);
-  },
+-- all that a general call takes to compute, by one name
+general : Unit {0}
+unfolding answer next after LinesLines.members LinesLines.pad LinesLines.lineOf LinesLines.cleanb LinesLists.numbersFrom LinesLists.filter LinesLists.without LinesLists.toEnd LinesLists.toFront LinesLists.count LinesLists.below LinesLists.first LinesLists.firstWith LinesLists.leastb LinesLists.fronted LinesLists.bestOf LinesLists.prioritised LinesLists.unionOf LinesLogic.oneIf LinesLogic.implies LinesLogic.allBelow LinesSlots.zeroFrom SchedulerChanges.withLevels SchedulerChanges.priorityChanged SchedulerChanges.preemptionChanged SchedulerChoice.bestAmong SchedulerChoice.bestReady SchedulerChoice.bestMarked SchedulerChoice.staysb SchedulerChoice.overtakesb SchedulerChoice.nextOf SchedulerChoice.withMark SchedulerChoice.replaced SchedulerChoice.dispatched SchedulerChoice.rescheduled SchedulerChoice.relinquished SchedulerOrders.threadAt SchedulerOrders.lineAt SchedulerOrders.firstAt SchedulerOrders.withThread SchedulerOrders.withOrder SchedulerOrders.withRunner SchedulerOrders.idle SchedulerOrders.moved SchedulerOrders.movedFront SchedulerOrders.joined SchedulerOrders.woken SchedulerOrders.prioritisedAt SchedulerSound.limitsb SchedulerSound.markFitb SchedulerSound.suspensionFitb SchedulerSound.ticksFitb SchedulerSound.objectFitb SchedulerSound.zerob SchedulerSound.fitb SchedulerSound.countedb SchedulerSound.steadyb SchedulerSound.runsb SchedulerSound.soundb SchedulerThreads.uncreated SchedulerThreads.readyb SchedulerThreads.sleepsb SchedulerThreads.waitsb SchedulerThreads.pausedb SchedulerThreads.markedb SchedulerThreads.standsb SchedulerThreads.numberOf SchedulerThreads.placedb SchedulerThreads.inState SchedulerThreads.awake SchedulerThreads.withSuspension SchedulerThreads.created ObjectsGroups.noGroup ObjectsGroups.groupWith ObjectsGroups.orOptionb ObjectsGroups.someSetb ObjectsGroups.allSetb ObjectsGroups.metb ObjectsGroups.clearsb ObjectsGroups.clearOf ObjectsGroups.lessFlags ObjectsQueues.noQueue ObjectsQueues.capacityOf ObjectsQueues.emptyb ObjectsQueues.fullb ObjectsQueues.roomb ObjectsQueues.usedWords ObjectsQueues.sizesFitb ObjectsQueues.queueLimitsb ObjectsQueues.storeFitb ObjectsQueues.queueZerob ObjectsQueues.queueFitb ObjectsQueues.emptyQueue ObjectsQueues.storedWords ObjectsQueues.storing ObjectsQueues.oldest ObjectsQueues.withoutOldest ObjectsQueues.withLast ObjectsQueues.withFirst ObjectsQueues.withSent ObjectsQueues.givenPast ObjectsQueues.leftPast ObjectsQueues.flushed ObjectsSemaphores.noSemaphore BlocksPools.noPool BlocksPools.blocksOf BlocksPools.freeBlocks BlocksPools.blockSizesb BlocksPools.poolLimitsb BlocksPools.onceb BlocksPools.listingb BlocksPools.listFitb BlocksPools.poolZerob BlocksPools.poolFitb BlocksPools.listing BlocksPools.freshPool BlocksPools.usedb BlocksPools.nextBlock BlocksPools.withoutNext BlocksPools.withFree BlocksPools.blockStart BlocksViews.viewedb BlocksViews.extentOf BlocksViews.viewed BlocksViews.onwards BlocksViews.written BlocksViews.p8 BlocksViews.p8Area CallsCalls.knownCall CallsCalls.decoded CallsHeld.heldWords CallsHeld.messageOf CallsHeld.holding CallsHeld.sending CallsHeld.requesting CallsMessages.messageIn WaitingFit.blankFrom WaitingFit.waitsOnb WaitingFit.sendsb WaitingFit.statusFitb WaitingFit.wordsFitb WaitingFit.senderFitb WaitingFit.requestFitb WaitingFit.unheldFitb WaitingFit.heldFitb WaitingFit.semaphoreWaitb WaitingFit.queueWaitb WaitingFit.groupWaitb WaitingFit.poolWaitb WaitingFit.semaphoresFitb WaitingFit.queuesFitb WaitingFit.groupsFitb WaitingFit.poolsFitb WaitingTicks.timedb WaitingTicks.timeoutStatus WaitingTicks.withTicks KernelAnswers.answerOf KernelAnswers.refused KernelLoops.answered KernelEdits.statusBy KernelEdits.recordBy KernelEdits.heldBy KernelEdits.frontb KernelEdits.edited KernelEdits.applied KernelEdits.gathered KernelEdits.endsb KernelEdits.statusOf KernelEdits.carriedOut KernelEdits.guarded KernelEffects.endsEach KernelEffects.storeEffect KernelEffects.closeEffect KernelEffects.rankEffect KernelEffects.serveEffect KernelEffects.giveEffect KernelEffects.counting KernelEffects.takeEffect KernelThreads.createEffect KernelThreads.deleteEffect KernelThreads.resumeEffect KernelThreads.suspendEffect KernelThreads.terminateEffect KernelThreads.restEffect KernelThreads.relinquishEffect KernelThreads.sleepEffect KernelThreads.abortEffect KernelThreads.priorityEffect KernelThreads.preemptionEffect KernelThreads.stateEffect KernelThreads.wordsEffect KernelClock.clockEffect KernelClock.clockSetEffect KernelClock.tickEffect KernelSemaphores.semaphoreGetEffect KernelSemaphores.putEffect KernelQueues.sendEffect KernelQueues.pastEffect KernelQueues.receiveEffect KernelQueues.flushEffect KernelGroups.wokenBy KernelGroups.clearsBy KernelGroups.setOrEffect KernelGroups.setEffect KernelGroups.flagsGetEffect KernelPools.allocateEffect KernelPools.releaseEffect CallsCallers.allowedb KernelRoles.limitOf KernelRefusals.refusals KernelRefusals.firstReason KernelRefusals.reasonOf KernelGeneral.effectOf KernelGeneral.stepOf KernelGeneral.step KernelGeneral.unsound KernelGeneral.call KernelSound.waitFitb KernelSound.soundb KernelTables.started KernelTables.heldAt KernelTables.semaphoreAt KernelTables.queueAt KernelTables.groupAt KernelTables.poolAt KernelTables.withScheduler KernelTables.withHeld KernelTables.withSemaphore KernelTables.withQueue KernelTables.withGroup KernelTables.withPool KernelTables.withClock KernelViews.viewedPool KernelViews.blockExtent KernelViews.blockView KernelViews.blockWritten KernelClock.nextTime KernelClock.countsEach KernelClock.ticksTaken KernelClock.timeouts WaitingTicks.atZerob
+general = tt
+
+pub cases : Cases
+unfolding general called said made withCount p3a p3b waits p9 asks p4 p4set p5 p6 p7 receive p8 timedOutGet timedOut suspendedGet reprioritised
+cases =
+    record {
+      p1 = refl;
+      p2 = (refl, refl);
+      p2done = (refl, refl);
+      p3 = (refl, refl, refl);
+      p3mark = (refl, refl, refl);
+      p4ended = refl;
+      p4ready = (refl, refl);
+      p4status = (refl, refl);
+      p4held = (refl, refl);
+      p4flags = refl;
+      p4line = refl;
+      p5 = refl;
+      p6 = (refl, refl, refl, refl);
+      p7 = (refl, refl, refl);
+      p8blocks = refl;
+      p8view = refl;
+      p8released = (refl, refl);
+      p9line = refl;
+      p10 = (refl, refl);
+      timeout = refl;
+      interruptWait = refl;
+      timeouts = (refl, refl, refl, refl, refl, refl);
+      suspendedServed = (refl, refl);
+      lowered = (refl, refl, refl);
+      raised = (refl, refl);
+    }
+
+-- ---- witnesses
+facts : Facts semaphore × Facts queue × Facts pool
+unfolding general called emptied takeCall giveCall queued waitingOn refusedCall beforeLast Rolls.onb Rolls.givesb Rolls.prioritisesOrDeletesb Rolls.succeedsb Rolls.names Rolls.rollOf Rolls.each Rolls.rest Rolls.unnamed Rolls.ticked Rolls.strikeOut Rolls.rolled Rolls.gave
+facts = (
   record {
     line = refl;
     takes = refl;
@@ -125,10 +136,6 @@ computed = (
   },
 )
 
-pub cases : Cases
-cases = computed .0
-
--- ---- witnesses
 after-sound : (ms : List Made) (k : Kernel) → Sound k → Sound (after k ms)
 unfolding after
 after-sound [] k S = S
@@ -151,4 +158,4 @@ met d o f =
     }
 
 pub witnesses : Witnesses
-witnesses = record { ofSemaphore = met semaphore refl (computed .1); ofQueue = met queue refl (computed .2); ofPool = met pool refl (computed .3) }
+witnesses = record { ofSemaphore = met semaphore refl (facts .0); ofQueue = met queue refl (facts .1); ofPool = met pool refl (facts .2) }

@@ -115,13 +115,14 @@ module _ (s : Scheduler) (S : Sound s) (t p : ℕ) (small : t < 32) (created : t
   chosen-priority : (u : ℕ) → priorityAt x u ≡ priorityAt y u
   chosen-priority = Choosing.rescheduled-keeps y Y (λ th. th .priority) mark-priority false
 
-  chosen-threshold : thresholdAt x t ≡ p
-  chosen-threshold = Choosing.rescheduled-keeps y Y (λ th. th .threshold) mark-threshold false t ∙ own-threshold
+  chosen-threshold : (u : ℕ) → thresholdAt x u ≡ thresholdAt y u
+  chosen-threshold = Choosing.rescheduled-keeps y Y (λ th. th .threshold) mark-threshold false
 
   unmarked : threadAt x t .marked ≡ false
   unmarked =
       let a = chosen-priority t ∙ own-priority in
-      fit-unmarked (threadAt x t) (X .steady .fit t small) (omega (arith, a, chosen-threshold))
+      let b = chosen-threshold t ∙ own-threshold in
+      fit-unmarked (threadAt x t) (X .steady .fit t small) (omega (arith, a, b))
 
   -- where t runs
   module _ (runs : runner s ≡ t) where
@@ -185,8 +186,10 @@ module _ (s : Scheduler) (S : Sound s) (t p : ℕ) (small : t < 32) (created : t
   reprioritised =
       record {
         priority = chosen-priority t ∙ own-priority;
-        threshold = chosen-threshold;
+        threshold = chosen-threshold t ∙ own-threshold;
         unmarked = unmarked;
+        others = λ u n. (let e = priority-others s (S .steady) t small created p u n in
+            (chosen-priority u ∙ ap (λ (th : Thread). th .priority) e, chosen-threshold u ∙ ap (λ (th : Thread). th .threshold) e));
         givesWay = gives-way;
         goesOn = goes;
       }

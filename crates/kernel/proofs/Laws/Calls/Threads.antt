@@ -2,7 +2,7 @@
 use mathlib.Core.Path.{_≡_, refl, ap}
 use mathlib.Core.List.{List, [], _∷_}
 use mathlib.Core.Bool.{Bool, true, false, _&&_, _||_, not}
-use Prim.Native.Nat.{ℕ, _<_, min}
+use Prim.Native.Nat.{ℕ, _<_}
 use Prim.{tt}
 use native.Mathlib.Omega.{arith}
 use lib.Dec.{eqb, ltb, leb}
@@ -12,7 +12,7 @@ use Rattle.lines.proofs.Laws.Logic.{by-test, by-choice, never, and-left, and-ri
 use Rattle.scheduler.specs.declared.thread.Thread.{Thread}
 use Rattle.scheduler.specs.declared.thread.Place.{Place}
 use Rattle.scheduler.specs.Threads.{uncreated, readyb, waitsb, pausedb, standsb, numberOf, placedb, inState, atRest, withSuspension, created, finishedb}
-use Rattle.scheduler.specs.Changes.{withLevels}
+use Rattle.scheduler.specs.Changes.{withLevels, withPriority}
 use Rattle.scheduler.specs.Sound.{fitb}
 use Rattle.scheduler.proofs.Laws.Threads as Records
 use Rattle.scheduler.proofs.Laws.States
@@ -32,7 +32,7 @@ use Rattle.kernel.specs.Edits.Edit.{moves, alters}
 use Rattle.kernel.specs.Edits.Success.{done, lifted}
 use Rattle.kernel.specs.Roles.{mayMoveb, mayb, allb}
 use Rattle.kernel.specs.Effects.{gives, does}
-use Rattle.kernel.specs.Threads.{keeps, clears, createEffect, deleteEffect, resumeEffect, suspendEffect, terminateEffect, restEffect, relinquishEffect, sleepEffect, abortEffect, lowered, priorityEffect, preemptionEffect, stateEffect, wordsEffect}
+use Rattle.kernel.specs.Threads.{keeps, clears, createEffect, deleteEffect, resumeEffect, suspendEffect, terminateEffect, restEffect, relinquishEffect, sleepEffect, abortEffect, priorityEffect, preemptionEffect, stateEffect, wordsEffect}
 use Rattle.kernel.proofs.Laws.Answers.{second-none, unless-none}
 use Rattle.kernel.proofs.Laws.Fits
 use Rattle.kernel.proofs.Laws.Lines
@@ -78,8 +78,8 @@ module _ (k : Kernel) (F : Fit k) (t : ℕ) (made : threadOf k t .created ≡ tr
   unfolding Fits.seen withSuspension standsb readyb waitsb placedb numberOf
   suspension b h = record { small = small; fit = States.fit-suspension b (threadOf k t) made fit-old h; stands = refl; placed = λ p. refl; seen = refl }
 
-  lowered-fit : (p : ℕ) → p < 32 → fitb (lowered p (threadOf k t)) ≡ true
-  lowered-fit p low = Records.fit-levels p (min (threadOf k t .threshold) p) (threadOf k t) fit-old made low (omega arith)
+  priority-fit : (p : ℕ) → p < 32 → fitb (withPriority p (threadOf k t)) ≡ true
+  priority-fit p low = Records.fit-levels p p (threadOf k t) fit-old made low (omega arith)
 
   -- another priority and threshold, where the place stays
   levels : (p h : ℕ) → fitb (withLevels p h (threadOf k t)) ≡ true → ((q : Place) → placedb q (withLevels p h (threadOf k t)) ≡ placedb q (threadOf k t)) → Fits.Altered k t (withLevels p h (threadOf k t))
@@ -205,9 +205,9 @@ module _ (k : Kernel) (b c : ℕ) (messages : List ℕ) (caller t : ℕ) where
       let low = ltb-true p 32 (Effects.is-true (ltb p 32) Statuses.priorityError _ (omega arith) (second-none _ _ z)) in
       by-choice (λ (es : List Edit). Does.Proper k 11 t (gives (oneWord (th .priority)) es)) (readyb th) _ _
       (λ y. let l = ready-low th y in
-      Effects.proper-turn k (S .fit) 11 t t (lowered p) keeps _ false (small k (S .fit) t made) (States.rest-not-paused th l) (lowered-fit k (S .fit) t made p low) l
-      (Held.held-same (lowered p th) th made l made l (heldAt k t) (S .fit .held t (small k (S .fit) t made))))
-      (λ y. Effects.proper-alter k (S .fit) 11 t t (lowered p) _ (levels k (S .fit) t made p _ (lowered-fit k (S .fit) t made p low) (λ q. Records.levels-placed p _ th y q)) refl (Effects.here t))))
+      Effects.proper-turn k (S .fit) 11 t t (withPriority p) keeps _ false (small k (S .fit) t made) (States.rest-not-paused th l) (priority-fit k (S .fit) t made p low) l
+      (Held.held-same (withPriority p th) th made l made l (heldAt k t) (S .fit .held t (small k (S .fit) t made))))
+      (λ y. Effects.proper-alter k (S .fit) 11 t t (withPriority p) _ (levels k (S .fit) t made p p (priority-fit k (S .fit) t made p low) (λ q. Records.levels-placed p p th y q)) refl (Effects.here t))))
 
   pub preemption-does : (h : ℕ) → Does.Does k caller 12 t b c messages (preemptionRefusal th h caller) (preemptionEffect k t h)
   unfolding preemptionRefusal preemptionEffect withLevels mayb

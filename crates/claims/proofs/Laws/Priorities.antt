@@ -1,0 +1,152 @@
+-- What a priority change does, by the scheduler's claims.
+use mathlib.Core.Path.{_≡_, refl, sym, ap, _∙_, subst}
+use mathlib.Core.List.{List, [], _∷_, _++_}
+use mathlib.Core.Bool.{Bool, true, false}
+use Prim.Native.Nat.{ℕ, _<_, min}
+use native.Mathlib.Omega.{arith}
+use lib.Dec.{eqb, ltb}
+use lib.ListN.{length}
+use borrow.Author.Tests.{eqb-true, eq-eqb, ltb-true}
+use Rattle.lines.specs.Logic.{if_then_else_}
+use Rattle.lines.specs.Lists.{without, onlyIf}
+use Rattle.lines.proofs.Laws.Logic.{by-test, by-choice, never, and-left, and-right}
+use Rattle.scheduler.specs.declared.thread.Thread.{Thread}
+use Rattle.scheduler.specs.declared.thread.Place.{Place}
+use Rattle.scheduler.specs.declared.Scheduler.{Scheduler}
+use Rattle.scheduler.specs.Threads.{readyb, waitsb, standsb, numberOf, placedb, readyAt}
+use Rattle.scheduler.specs.Orders.{lineAt, joined}
+use Rattle.scheduler.specs.Choice.{rescheduled}
+use Rattle.scheduler.specs.Changes.{withLevels, withPriority, priorityChanged}
+use Rattle.scheduler.specs.Claims.{Reprioritised}
+use Rattle.scheduler.specs.Sound as Scheduling
+use Rattle.scheduler.proofs.Laws.Claims as Scheduler
+use Rattle.scheduler.proofs.Laws.States.{created-small}
+use Rattle.calls.specs.Statuses as Statuses
+use Rattle.calls.specs.Calls.{decoded, knownCall}
+use Rattle.calls.specs.Chains.{priorityRefusal}
+use Rattle.calls.specs.Held.{oneWord}
+use Rattle.calls.specs.declared.call.Request.{Request}
+use Rattle.calls.specs.declared.call.Decoded.{Decoded}
+use Rattle.calls.specs.declared.call.Decoded.the-variants.{Known, Unknown}
+use Rattle.kernel.specs.declared.Kernel.{Kernel}
+use Rattle.kernel.specs.declared.Answer.{Answer}
+use Rattle.kernel.specs.Tables.{threadOf, runnerOf, withScheduler, withHeld}
+use Rattle.kernel.specs.Sound.{Sound}
+use Rattle.kernel.specs.Answers.{Outcome, answerOf, refused}
+use Rattle.kernel.specs.Edits.{recordBy, heldBy, frontb, edited, applied, gathered, endsb, statusOf, carriedOut, guarded}
+use Rattle.kernel.specs.Threads.{priorityEffect}
+use Rattle.kernel.specs.Refusals.{reasonOf}
+use Rattle.kernel.specs.Chains.{chainOf, nobodyRunsb, chained}
+use Rattle.kernel.specs.General.{effectOf, stepOf, step}
+use Rattle.kernel.proofs.Laws.Answers.{second-none}
+use Rattle.kernel.proofs.Laws.Effects.{is-true}
+use Rattle.kernel.proofs.Laws.Refusals.{Same, same-reason}
+use Rattle.claims.specs.Lists.{Made, answer}
+use Rattle.claims.specs.Rolls.{succeedsb}
+use Rattle.claims.specs.Priorities.{PriorityChanged, PriorityClaim}
+use Rattle.claims.proofs.Laws.Steps.{answer-is}
+
+-- ---- a call that is done
+module _ (k : Kernel) (q : Request) (messages : List ℕ) where
+  -- its chain finds no reason, and its effect is carried out
+  abbrev Done : Decoded → Type 0
+  Done (Known call) = (chained k (q .caller) call messages ≡ 0) × (stepOf k q (Known call) messages ≡ carriedOut k (effectOf k call messages))
+  Done Unknown = ⊥
+
+  step-done : (x : Decoded) → Same k (q .caller) (q .a) (q .b) (q .c) (q .d) messages (q .number) x → stepOf k q x messages .status ≡ 0 → Done x
+  unfolding stepOf guarded refused
+  step-done (Known call) same e =
+      by-test (eqb (reasonOf k q messages) 0)
+      (λ z. (sym same ∙ eqb-true (reasonOf k q messages) 0 z, rw z))
+      (λ z. never (eq-eqb (reasonOf k q messages) 0 (rw z at e)) z)
+  step-done Unknown same e = omega (arith, e)
+
+-- ---- what a priority change makes of the threads and orders
+module _ (k : Kernel) (t p : ℕ) where
+  changes : carriedOut k (priorityEffect k t p) .kernel .scheduler ≡ rescheduled (priorityChanged (k .scheduler) t p) false
+  unfolding carriedOut applied edited recordBy heldBy frontb joined withHeld withScheduler priorityEffect priorityChanged
+  changes = by-test (readyb (threadOf k t)) (λ r. rw r) (λ r. rw r)
+
+  answered-words : carriedOut k (priorityEffect k t p) .words ≡ oneWord (threadOf k t .priority)
+  unfolding carriedOut priorityEffect
+  answered-words = refl
+
+  nobody-ended : length (carriedOut k (priorityEffect k t p) .ended) ≡ 0
+  unfolding carriedOut gathered endsb priorityEffect
+  nobody-ended = by-test (readyb (threadOf k t)) (λ r. rw r) (λ r. rw r)
+
+-- a ready thread of the new priority stands in its order
+ready-there : (p : ℕ) (th : Thread) → readyb th ≡ true → placedb (readyAt p) (withPriority p th) ≡ true
+unfolding placedb standsb numberOf readyb waitsb withLevels
+ready-there p th r = rw (and-left (th .created) _ r, eqb-true (th .state) 0 (and-right (th .created) _ r), eq-eqb p p refl) refl
+
+-- the orders, where the thread is created and the priority known
+module _ (k : Kernel) (S : Sound k) (t p : ℕ) (small : t < 32) (created : threadOf k t .created ≡ true) (low : p < 32) where
+  abbrev steady : Scheduling.Steady (k .scheduler)
+  steady = S .fit .steady
+
+  line-after : (q : Place) → lineAt (carriedOut k (priorityEffect k t p) .kernel .scheduler) q ≡ lineAt (priorityChanged (k .scheduler) t p) q
+  line-after q = rw (changes k t p) (Scheduler.claims .choiceLine (priorityChanged (k .scheduler) t p) (Scheduler.claims .prioritySteady (k .scheduler) steady t p small created low) false q)
+
+  joined-last : readyb (threadOf k t) ≡ true → lineAt (carriedOut k (priorityEffect k t p) .kernel .scheduler) (readyAt p) ≡ without t (lineAt (k .scheduler) (readyAt p)) ++ (t ∷ [])
+  joined-last r =
+      line-after (readyAt p) ∙ Scheduler.claims .priorityLine (k .scheduler) steady t p small created low r (readyAt p)
+      ∙ ap (λ (b : Bool). without t (lineAt (k .scheduler) (readyAt p)) ++ onlyIf b t) (ready-there p (threadOf k t) r)
+
+  stands-as-before : readyb (threadOf k t) ≡ false → (q : Place) → lineAt (carriedOut k (priorityEffect k t p) .kernel .scheduler) q ≡ lineAt (k .scheduler) q
+  stands-as-before r q = line-after q ∙ Scheduler.claims .priorityKept (k .scheduler) steady t p small created r q
+
+module _ (k : Kernel) (S : Sound k) (m : Made) (number : m .request .number ≡ 11) (done : succeedsb (answer k m) ≡ true) where
+  abbrev q : Request
+  q = m .request
+
+  -- no reason is found, and the effect is carried out
+  abbrev Found : Decoded → Type 0
+  Found x = (priorityRefusal (threadOf k (min (q .a) 32)) (q .b) (q .caller) ≡ 0) × (stepOf k q x (m .messages) ≡ carriedOut k (priorityEffect k (min (q .a) 32) (q .b)))
+
+  known-found : Done k q (m .messages) (knownCall (q .number) (q .a) (q .b) (q .c) (q .d)) → Found (knownCall (q .number) (q .a) (q .b) (q .c) (q .d))
+  unfolding knownCall effectOf chained chainOf
+  known-found =
+      subst (λ (i : ℕ). Done k q (m .messages) (knownCall i (q .a) (q .b) (q .c) (q .d)) → Found (knownCall i (q .a) (q .b) (q .c) (q .d))) (sym number)
+      (λ d. (by-choice (λ (s : ℕ). s ≡ 0 → priorityRefusal (threadOf k (min (q .a) 32)) (q .b) (q .caller) ≡ 0) (nobodyRunsb (q .caller) (runnerOf k)) Statuses.nobodyRuns (priorityRefusal (threadOf k (min (q .a) 32)) (q .b) (q .caller)) (λ h e. absurd (omega (arith, e))) (λ h e. e) (d .0), d .1))
+
+  found : Found (decoded q)
+  unfolding succeedsb answerOf step decoded
+  found =
+      by-choice (λ (x : Decoded). Done k q (m .messages) x → Found x) (ltb 2 (q .caller)) Unknown (knownCall (q .number) (q .a) (q .b) (q .c) (q .d)) (λ u d. absurd d) (λ u. known-found)
+      (step-done k q (m .messages) (decoded q) (same-reason k q (m .messages)) (sym (ap (λ (y : Answer). y .status) (answer-is k S m)) ∙ eqb-true (answer k m .status) 0 done))
+
+  created : threadOf k (min (q .a) 32) .created ≡ true
+  unfolding priorityRefusal
+  created = is-true _ Statuses.threadError _ (omega arith) (found .0)
+
+  low : q .b < 32
+  unfolding priorityRefusal
+  low = ltb-true (q .b) 32 (is-true (ltb (q .b) 32) Statuses.priorityError _ (omega arith) (second-none _ _ (found .0)))
+
+  small : min (q .a) 32 < 32
+  small = created-small (k .scheduler) (S .fit .steady) (min (q .a) 32) created
+
+  answered : answer k m ≡ answerOf (carriedOut k (priorityEffect k (min (q .a) 32) (q .b)))
+  unfolding step
+  answered = answer-is k S m ∙ ap answerOf (found .1)
+
+  changed : PriorityChanged k (min (q .a) 32) (q .b) (answerOf (carriedOut k (priorityEffect k (min (q .a) 32) (q .b))))
+  unfolding answerOf
+  changed =
+      record {
+        words = answered-words k (min (q .a) 32) (q .b);
+        ended = nobody-ended k (min (q .a) 32) (q .b);
+        thread = rw (changes k (min (q .a) 32) (q .b)) (Scheduler.claims .reprioritised (k .scheduler) (record { steady = S .fit .steady; runs = S .runs }) (min (q .a) 32) (q .b) small created low);
+        next = refl;
+        joins = joined-last k S (min (q .a) 32) (q .b) small created low;
+        keepsPlace = stands-as-before k S (min (q .a) 32) (q .b) small created low;
+      }
+
+  pub priority-changed : PriorityChanged k (q .a) (q .b) (answer k m)
+  priority-changed =
+      let e : min (q .a) 32 ≡ q .a = (let l = small in omega (arith, l)) in
+      subst (λ (t : ℕ). PriorityChanged k t (q .b) (answer k m)) e (rw answered changed)
+
+pub priorities : PriorityClaim
+priorities = priority-changed

@@ -1,0 +1,38 @@
+-- What a priority change does (rule 6.6), said of the general call on any sound tables.
+use mathlib.Core.Path.{_≡_}
+use mathlib.Core.List.{[], _∷_, _++_}
+use mathlib.Core.Bool.{true, false}
+use Prim.Native.Nat.{ℕ}
+use Rattle.lines.specs.Lists.{without}
+use Rattle.scheduler.specs.declared.thread.Place.{Place}
+use Rattle.scheduler.specs.Threads.{readyb, readyAt}
+use Rattle.scheduler.specs.Orders.{lineAt}
+use Rattle.scheduler.specs.Claims.{Reprioritised}
+use Rattle.calls.specs.Services.{threadPriorityChange}
+use Rattle.calls.specs.Held.{oneWord}
+use Rattle.kernel.specs.declared.Kernel.{Kernel}
+use Rattle.kernel.specs.declared.Answer.{Answer}
+use Rattle.kernel.specs.Tables.{threadOf, runnerOf}
+use Rattle.kernel.specs.Sound.{Sound}
+use Rattle.claims.specs.Lists.{Made, answer}
+use Rattle.claims.specs.Rolls.{succeedsb}
+
+-- rule 6.6: the answer to a priority change of thread t to p that is done
+pub record PriorityChanged (k : Kernel) (t p : ℕ) (r : Answer) : Type 0 where
+  -- word 0 is the old priority, and no wait ends
+  pub words : r .words ≡ oneWord (threadOf k t .priority)
+  pub ended : r .ended ≡ 0
+  -- priority and threshold are p, the mark has ended, and a lowered runner gives way to a better thread and to no other
+  pub thread : Reprioritised (k .scheduler) t p (r .kernel .scheduler)
+  pub next : r .next .0 ≡ runnerOf (r .kernel)
+  -- a ready thread stands last in its new order
+  pub joins : readyb (threadOf k t) ≡ true
+      → lineAt (r .kernel .scheduler) (readyAt p) ≡ without t (lineAt (k .scheduler) (readyAt p)) ++ (t ∷ [])
+  -- any other keeps its place, and so does everybody
+  pub keepsPlace : readyb (threadOf k t) ≡ false → (q : Place) → lineAt (r .kernel .scheduler) q ≡ lineAt (k .scheduler) q
+
+-- rule 6.6: of every call 11 that is done
+abbrev pub PriorityClaim : Type 0
+PriorityClaim =
+    (k : Kernel) → Sound k → (m : Made) → m .request .number ≡ threadPriorityChange → succeedsb (answer k m) ≡ true
+    → PriorityChanged k (m .request .a) (m .request .b) (answer k m)
