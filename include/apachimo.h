@@ -301,7 +301,8 @@ static inline apachimo_reply tx_thread_wait_abort(apachimo_board *board,
                                thread, 0, 0, 0);
 }
 
-/* Word 0 of the reply: the old priority. */
+/* Sets the threshold to the new priority too. A runner that it lowers gives
+ * way at once to a better ready thread. Word 0 of the reply: the old priority. */
 static inline apachimo_reply tx_thread_priority_change(apachimo_board *board,
                                                        uint32_t caller,
                                                        uint32_t thread,

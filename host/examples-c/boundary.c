@@ -304,6 +304,32 @@ static void puts_at_the_largest_count(void)
     check("ceiling put, largest count", refuses(reply, TX_CEILING_EXCEEDED, 0), reply.status);
 }
 
+/* Priority changes that are refused: number, priority, caller. */
+static void priority_changes(void)
+{
+    static const struct {
+        const char *name;
+        uint32_t caller, thread, priority, status;
+    } cases[] = {
+        {"priority change, no thread", APACHIMO_THREAD, 1, 32, TX_THREAD_ERROR},
+        {"priority change, thread 2^32 - 1", APACHIMO_THREAD, 0xFFFFFFFF, 5, TX_THREAD_ERROR},
+        {"priority change, priority 32", APACHIMO_INTERRUPT, 0, 32, TX_PRIORITY_ERROR},
+        {"priority change, past a byte", APACHIMO_THREAD, 0, 256, TX_PRIORITY_ERROR},
+        {"priority change, 2^32 - 1", APACHIMO_THREAD, 0, 0xFFFFFFFF, TX_PRIORITY_ERROR},
+        {"priority change by start-up", APACHIMO_STARTUP, 0, 5, TX_CALLER_ERROR},
+        {"priority change by interrupt", APACHIMO_INTERRUPT, 0, 5, TX_CALLER_ERROR},
+    };
+    apachimo_reply reply;
+    size_t i;
+
+    prepare();
+    for (i = 0; i < sizeof cases / sizeof cases[0]; i++) {
+        reply = apachimo_call(state(), APACHIMO_STATE_BYTES, APACHIMO_THREAD_PRIORITY_CHANGE,
+                              cases[i].caller, cases[i].thread, cases[i].priority, 0, 0, NULL, 0);
+        check(cases[i].name, refuses(reply, cases[i].status, 0), reply.status);
+    }
+}
+
 /* What is carried out changes the block and the replies, and no guard. */
 static void carried_out(void)
 {
@@ -341,6 +367,7 @@ int main(void)
     short_reply_buffers();
     messages_outside();
     puts_at_the_largest_count();
+    priority_changes();
     carried_out();
     return failures == 0 ? 0 : 1;
 }

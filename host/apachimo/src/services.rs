@@ -64,7 +64,9 @@ impl Board {
         self.call(caller, Call::ThreadWaitAbort { thread })
     }
 
-    /// Changes a thread's priority. Word 0: the old one.
+    /// Changes a thread's priority, and sets its threshold to the new one. A
+    /// runner that is lowered gives way at once to a better ready thread.
+    /// Word 0: the old priority.
     pub fn thread_priority_change(
         &mut self,
         caller: Caller,

@@ -77,8 +77,9 @@ fn bad_input_from_c() {
     let printed = text(&output.stdout);
     assert!(output.status.success(), "{printed}");
     assert!(!printed.contains("WRONG") && !printed.contains("CHANGED"), "{printed}");
-    // Every case was run: 16 lengths, 5 numbers, 40 on unsound tables, 10 tapes, 4 puts, and the rest.
-    assert_eq!(printed.lines().count(), 86, "{printed}");
+    // Every case was run: 16 lengths, 5 numbers, 40 on unsound tables, 10 tapes, 4 puts,
+    // 7 priority changes, and the rest.
+    assert_eq!(printed.lines().count(), 93, "{printed}");
 }
 
 /// Every service once, as `services.c` calls them.

@@ -203,6 +203,53 @@ fn a_put_at_the_largest_count_changes_nothing() {
     assert!(board.tables().to_string().contains("sem 3 count=4294967295: \n"));
 }
 
+/// Priority, threshold and mark of a thread.
+fn levels(board: &Board, thread: Thread) -> (u8, u8, bool) {
+    let tables = board.tables();
+    let record = tables.threads[thread.0 as usize].as_ref().unwrap();
+    (record.priority, record.threshold, record.marked)
+}
+
+#[test]
+fn a_lowered_runner_gives_way_at_once() {
+    let (first, second) = (Thread(0), Thread(1));
+    let mut board = Board::new();
+    board.thread_create(Caller::StartUp, first, 5, 5, Start::Auto);
+    board.thread_create(Caller::StartUp, second, 7, 7, Start::Auto);
+    let before = board.clone();
+    for (caller, thread, priority, status) in [
+        (Caller::Thread, Thread(2), 32, Status::ThreadError),
+        (Caller::Thread, Thread(u32::MAX), 10, Status::ThreadError),
+        (Caller::Interrupt, first, 32, Status::PriorityError),
+        (Caller::Thread, first, u32::MAX, Status::PriorityError),
+        (Caller::Thread, first, 256 + 10, Status::PriorityError),
+        (Caller::Interrupt, first, 10, Status::CallerError),
+        (Caller::StartUp, first, 10, Status::CallerError),
+    ] {
+        let refused = Reply { status, words: [0; 16], next: Some(first), ended: 0 };
+        assert_eq!(board.thread_priority_change(caller, thread, priority), refused);
+        assert_eq!(board, before);
+    }
+    let reply = board.thread_priority_change(Caller::Thread, first, 10);
+    assert_eq!((reply.status, reply.words[0]), (Status::Success, 5));
+    assert_eq!((reply.next, reply.ended), (Some(second), 0));
+    assert_eq!(levels(&board, first), (10, 10, false));
+}
+
+#[test]
+fn a_priority_change_gives_up_the_threshold() {
+    let (first, second) = (Thread(0), Thread(1));
+    for (priority, next) in [(8, second), (10, second), (5, first), (3, first)] {
+        let mut board = Board::new();
+        board.thread_create(Caller::StartUp, first, 10, 3, Start::Auto);
+        board.thread_create(Caller::StartUp, second, 5, 5, Start::Auto);
+        assert_eq!(board.time_get(Caller::StartUp).next, Some(first));
+        let reply = board.thread_priority_change(Caller::Thread, first, priority);
+        assert_eq!(reply.next, Some(next), "to {priority}");
+        assert_eq!(levels(&board, first), (priority as u8, priority as u8, false));
+    }
+}
+
 #[test]
 fn boards_are_values() {
     let first = board();

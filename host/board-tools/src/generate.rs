@@ -518,10 +518,7 @@ impl Generator {
                 Record { call: 4, caller: self.anybody(), args: [thread, 0, 0, 0] }
             }
             1 => Record { call: 8, caller: THREAD, args: [0; 4] },
-            2 => {
-                let (thread, priority) = (self.any_thread(), self.priority());
-                Record { call: 11, caller: THREAD, args: [thread, priority, 0, 0] }
-            }
+            2 => self.change_priority(),
             3 => self.change_threshold(),
             4 => Record { call: 7, caller: THREAD, args: [0; 4] },
             5 => Record { call: 5, caller: THREAD, args: [self.any_thread(), 0, 0, 0] },
@@ -536,11 +533,37 @@ impl Generator {
         }
     }
 
-    fn change_threshold(&mut self) -> Record {
-        let thread = match self.tables.running.index() {
+    /// The runner, or another thread.
+    fn runner_or_another(&mut self) -> u32 {
+        match self.tables.running.index() {
             Some(runner) if self.rng.percent(50) => runner as u32,
             _ => self.any_thread(),
+        }
+    }
+
+    /// Often of the runner or of a marked thread; where the threshold is below
+    /// the priority, often to a priority between them.
+    fn change_priority(&mut self) -> Record {
+        let marked = self.tables.marked;
+        let thread = if marked != 0 && self.rng.percent(30) {
+            marked.trailing_zeros()
+        } else {
+            self.runner_or_another()
         };
+        let record = &self.tables.threads[thread as usize];
+        let (threshold, old) = (record.threshold as u32, record.priority as u32);
+        let priority = if threshold < old && self.rng.percent(40) {
+            self.rng.between(threshold, old)
+        } else if self.rng.percent(4) {
+            *self.rng.pick(&[32, 255, 256, u32::MAX]).unwrap_or(&32)
+        } else {
+            self.priority()
+        };
+        Record { call: 11, caller: THREAD, args: [thread, priority, 0, 0] }
+    }
+
+    fn change_threshold(&mut self) -> Record {
+        let thread = self.runner_or_another();
         let priority = self.tables.threads[thread as usize].priority as u32;
         let threshold = if self.rng.percent(40) { priority } else { self.rng.between(0, priority) };
         Record { call: 12, caller: THREAD, args: [thread, threshold, 0, 0] }

@@ -132,6 +132,53 @@ fn semaphore_cases(
     ]
 }
 
+/// What a priority change may meet: of a runner, of a marked thread, of a
+/// thread that is not ready, and why it may be refused.
+fn priority_cases(
+    before: &Tables,
+    record: &Record,
+    status: Status,
+    after: &Tables,
+) -> Vec<(&'static str, bool)> {
+    if record.call != 11 {
+        return Vec::new();
+    }
+    let [number, priority, ..] = record.args;
+    let refused = |with| status == Status(with);
+    let mut cases = vec![
+        ("refused, number", refused(0x0E)),
+        ("refused, priority 32", refused(0x0F) && priority == 32),
+        ("refused, priority past a byte", refused(0x0F) && priority > 255),
+        ("refused, caller", refused(0x13) && priority < 32),
+    ];
+    if status != Status::SUCCESS {
+        return cases;
+    }
+    let (thread, at) = (&before.threads[number as usize], number as usize);
+    let (old, new) = (thread.priority as u32, priority);
+    let runner = before.running.index() == Some(at);
+    let stays = runner && after.running.index() == Some(at);
+    let goes = runner && !stays;
+    let equal = after.ready[priority as usize].iter(&after.threads).count() > 1;
+    let low = (thread.threshold as u32) < old;
+    cases.extend([
+        ("same priority", old == new),
+        ("same priority, low threshold", old == new && low),
+        ("lowered runner gives way", goes && new > old && !low),
+        ("lowered runner with a low threshold gives way", goes && new > old && low),
+        ("lowered runner goes on", stays && new > old),
+        ("lowered runner goes on beside an equal", stays && new > old && equal),
+        ("raised runner gives way", goes && new < old),
+        ("raised runner goes on", stays && new < old),
+        ("a mark ends", before.marked >> at & 1 == 1),
+        ("another one overtakes", !runner && after.running.index() == Some(at)),
+        ("of a waiter", thread.state.is_blocked()),
+        ("of a suspended thread", thread.state == State::Suspended),
+        ("of a finished thread", thread.state.is_finished()),
+    ]);
+    cases
+}
+
 /// The cases of a call by name, and whether it meets them, from the tables
 /// before and after it.
 type Cases = fn(&Tables, &Record, Status, &Tables) -> Vec<(&'static str, bool)>;
@@ -166,6 +213,11 @@ fn calls_of_pools_meet_every_case() {
 #[test]
 fn calls_of_semaphores_meet_every_case() {
     meets_every_case(8, semaphore_cases);
+}
+
+#[test]
+fn priority_changes_meet_every_case() {
+    meets_every_case(9, priority_cases);
 }
 
 #[test]
