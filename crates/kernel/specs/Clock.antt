@@ -1,12 +1,12 @@
 -- What calls 13 to 15 do.
 use mathlib.Core.List.{List, [], _∷_, _++_}
 use mathlib.Core.Bool.{Bool}
-use Prim.Native.Nat.{ℕ, _+_, _%_}
+use Prim.Native.Nat.{ℕ}
 use Rattle.numbers.specs.Numbers.{threads}
 use Rattle.lines.specs.Lists.{numbersFrom, filter}
 use Rattle.scheduler.specs.declared.thread.Thread.{Thread}
 use Rattle.calls.specs.Held.{noWords, oneWord}
-use Rattle.waiting.specs.Ticks.{timedb, atZerob}
+use Rattle.waiting.specs.Ticks.{nextTime, timedb, atZerob}
 use Rattle.kernel.specs.declared.Kernel.{Kernel}
 use Rattle.kernel.specs.Tables.{threadOf}
 use Rattle.kernel.specs.Edits.{Edit, applied, Effect}
@@ -23,10 +23,6 @@ unfoldable pub clockSetEffect : ℕ → Effect
 clockSetEffect time = does (sets time ∷ [])
 
 -- ---- the tick
--- rule 6.10: the clock after a tick: after 4,294,967,295 comes 0
-unfoldable pub nextTime : ℕ → ℕ
-nextTime time = (time + 1) % 4294967296
-
 -- rule 6.10: the threads of whose records a test holds, in the order of their numbers
 abbrev pub threadsWith : (Thread → Bool) → Kernel → List ℕ
 threadsWith f k = filter (λ t. f (threadOf k t)) (numbersFrom 0 threads)

@@ -15,6 +15,7 @@ use numbers::THREADS;
 use numbers::ThreadId;
 use waiting::ticks::is_last_tick;
 use waiting::ticks::is_timed;
+use waiting::ticks::next_time;
 use waiting::ticks::timeout_status;
 use waiting::ticks::with_ticks;
 
@@ -43,7 +44,7 @@ impl Kernel {
         if reason != 0 {
             return self.refused(reason);
         }
-        let time = std::num::wrapping_add_u32(self.clock, 1);
+        let time = next_time(self.clock);
         let mut k = self;
         let mut s = k.scheduler;
         let mut ended: u32 = 0;

@@ -1,12 +1,16 @@
--- The ticks that are left of one thread's wait or sleep.
+-- The clock's next time, and the ticks that are left of one thread's wait or sleep.
 use mathlib.Core.Bool.{Bool, _&&_, not}
-use Prim.Native.Nat.{ℕ, _-_}
+use Prim.Native.Nat.{ℕ, _+_, _-_, _%_}
 use lib.Dec.{eqb}
 use Rattle.lines.specs.Logic.{if_then_else_}
 use Rattle.scheduler.specs.declared.thread.Thread.{Thread}
 use Rattle.scheduler.specs.Threads.{asleep, onQueue, onSemaphore, onFlags, pausedb}
 use Rattle.calls.specs.declared.held.Held.{Held}
 use Rattle.calls.specs.Statuses as Statuses
+
+-- rule 6.10: the clock after a tick: after 4,294,967,295 comes 0
+unfoldable pub nextTime : ℕ → ℕ
+nextTime time = (time + 1) % 4294967296
 
 -- rule 5.1: a wait or sleep without end
 abbrev pub forever : ℕ

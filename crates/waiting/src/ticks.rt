@@ -1,6 +1,6 @@
-// Ticks of one thread's wait, and what a wait that times out leaves.
+// The clock's next time, the ticks of one thread's wait, and what a wait that times out leaves.
 ghost use mathlib.Core.Path.{_≡_};
-ghost use Rattle.waiting.specs.Ticks.{timedb, lastTickb, timeoutStatus, withTicks};
+ghost use Rattle.waiting.specs.Ticks.{nextTime, timedb, lastTickb, timeoutStatus, withTicks};
 use calls::held::Held;
 use calls::status::NO_EVENTS;
 use calls::status::NO_INSTANCE;
@@ -16,6 +16,13 @@ use scheduler::thread::Thread;
 
 // The ticks of a wait without end.
 pub const FOREVER: u32 = 0xFFFFFFFF;
+
+// The clock after a tick; after the last number of 32 bits comes 0.
+pub fn next_time(time: u32) -> u32
+    ensures { λ r. ⌜ r ≡ nextTime time ⌝ }
+{
+    std::num::wrapping_add_u32(time, 1)
+}
 
 // Whether the thread's wait or sleep has an end of its own.
 pub fn is_timed(th: Thread) -> bool

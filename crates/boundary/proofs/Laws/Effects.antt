@@ -31,7 +31,7 @@ use Rattle.calls.specs.Statuses as Statuses
 use Rattle.calls.specs.declared.call.Decoded.{Decoded}
 use Rattle.calls.specs.declared.call.Decoded.the-variants.{Known, Unknown}
 use Rattle.calls.proofs.Laws.Calls.{by-number}
-use Rattle.waiting.specs.Ticks.{timedb, atZerob}
+use Rattle.waiting.specs.Ticks.{nextTime, timedb, atZerob}
 use Rattle.kernel.specs.declared.Kernel.{Kernel}
 use Rattle.kernel.specs.Tables.{threadOf, runnerOf, heldAt, semaphoreAt, queueAt, groupAt, poolAt}
 use Rattle.kernel.specs.Kinds.{Kind, Object, stateOn, placeOf, objectAt, noObject}
@@ -41,7 +41,7 @@ use Rattle.kernel.specs.Edits.Cause.{served, deleted, timedOut}
 use Rattle.kernel.specs.Edits.Edit.{stores}
 use Rattle.kernel.specs.Effects.{gives, begins, endsEach, storeEffect, closeEffect, removeEffect, rankEffect, serveEffect, waitedb, giveEffect, counting, amountOf, oneLess, takeEffect}
 use Rattle.kernel.specs.Threads.{keeps, clears, createEffect, deleteEffect, resumeEffect, suspendEffect, terminateEffect, restEffect, relinquishEffect, sleepEffect, abortEffect, priorityEffect, preemptionEffect, stateEffect, wordsEffect}
-use Rattle.kernel.specs.Clock.{clockEffect, clockSetEffect, nextTime, threadsWith, countsEach, ticksTaken, timeouts, tickEffect}
+use Rattle.kernel.specs.Clock.{clockEffect, clockSetEffect, threadsWith, countsEach, ticksTaken, timeouts, tickEffect}
 use Rattle.kernel.specs.Semaphores.{semaphoreGetEffect, putEffect}
 use Rattle.kernel.specs.Queues.{sendEffect, pastEffect, receiveEffect, flushEffect}
 use Rattle.kernel.specs.Groups.{setOrEffect, setEffect, flagsGetEffect}

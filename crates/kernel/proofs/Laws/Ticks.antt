@@ -19,7 +19,7 @@ use Rattle.scheduler.specs.Threads.{uncreated, waitsb, sleepsb, pausedb, awake,
 use Rattle.scheduler.specs.Orders.{threadAt, withThread, withOrder, moved, joined}
 use Rattle.scheduler.specs.Choice.{rescheduled}
 use Rattle.calls.specs.Held.{noWords}
-use Rattle.waiting.specs.Ticks.{timedb, timeoutStatus, withTicks, oneTickLess, atZerob, lastTickb}
+use Rattle.waiting.specs.Ticks.{nextTime, timedb, timeoutStatus, withTicks, oneTickLess, atZerob, lastTickb}
 use Rattle.waiting.proofs.Laws.Ticks.{untimed-left}
 use Rattle.kernel.specs.declared.Kernel.{Kernel}
 use Rattle.kernel.specs.Tables.{threadOf, heldAt, withScheduler, withHeld}
@@ -29,7 +29,7 @@ use Rattle.kernel.specs.Edits.Move.{ends}
 use Rattle.kernel.specs.Edits.Edit.{moves, counts, sets}
 use Rattle.kernel.specs.Edits.Success.{done}
 use Rattle.kernel.specs.Effects.{does, endsEach}
-use Rattle.kernel.specs.Clock.{nextTime, countsEach, ticksTaken, timeouts, tickEffect}
+use Rattle.kernel.specs.Clock.{countsEach, ticksTaken, timeouts, tickEffect}
 use Rattle.kernel.proofs.Laws.Edits
 use Rattle.kernel.proofs.Laws.Waits
 

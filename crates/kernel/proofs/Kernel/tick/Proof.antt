@@ -3,7 +3,7 @@ use Rattle.scheduler.specs.Orders.{woken}
 use mathlib.Core.Path.{_≡_, refl, sym, ap, ap₂, _∙_}
 use mathlib.Core.Bool.{Bool}
 use mathlib.Core.List.{List, [], _∷_, _++_, append-nil}
-use Prim.Native.Nat.{ℕ, _≤_, _+_, _-_, _%_}
+use Prim.Native.Nat.{ℕ, _≤_, _+_, _-_}
 use native.Mathlib.Omega.{arith}
 use borrow.Author.Needs.{needs}
 use lib.ListN.{length, getD, length-set}
@@ -12,7 +12,7 @@ use Rattle.scheduler.specs.declared.thread.Thread.{Thread}
 use Rattle.scheduler.specs.Threads.{uncreated}
 use Rattle.scheduler.specs.Orders.{threadAt, withThread}
 use Rattle.calls.specs.Held.{noWords, noHeld}
-use Rattle.waiting.specs.Ticks.{timedb, timeoutStatus, withTicks, lastTickb}
+use Rattle.waiting.specs.Ticks.{nextTime, timedb, timeoutStatus, withTicks, lastTickb}
 use Rattle.scheduler.proofs.Laws.Threads.{length-mapped}
 use Rattle.kernel.specs.declared.Kernel.{Kernel}
 use Rattle.kernel.specs.Tables.{threadOf, heldAt, withScheduler, withHeld, withClock}
@@ -21,7 +21,6 @@ use Rattle.kernel.specs.Edits.{statusBy, recordBy, heldBy, frontb, edite
 use Rattle.kernel.specs.Edits.Cause.{timedOut}
 use Rattle.kernel.specs.Edits.Move.{ends}
 use Rattle.kernel.specs.Edits.Edit.{moves, counts, sets}
-use Rattle.kernel.specs.Clock.{nextTime}
 use Rattle.kernel.proofs.Laws.Waits.{woken-sized}
 use Rattle.kernel.proofs.Laws.Ticks.{ticksBelow, onePass, tick-same, below-other, more-below, more-ended, tick-last, tick-timed, tick-none}
 use Rattle.kernel.proofs.Laws.Fits.{ticks-left}
@@ -129,7 +128,7 @@ loop-again-3 c =
     (omega arith, l .inv .1, l .inv .2, e, omega (arith, n), omega arith)
 
 returns-2 : tie.Need-returns-2 Inv-loop μ-loop
-unfolding onePass nextTime applied edited gathered withScheduler withClock
+unfolding onePass applied edited gathered withScheduler withClock
 returns-2 c =
     let a = c .before .before .before .before .before .before .before .args in
     let l = c .before .before .loop in
@@ -137,11 +136,11 @@ returns-2 c =
     let i : l .t ≡ 32 = omega arith in
     let y = rw i at (l .inv .3) in
     let m = rw i at (l .inv .4) in
-    let clock = sets ((a .self .clock + 1) % 4294967296) ∷ [] in
+    let clock = sets (nextTime (a .self .clock)) ∷ [] in
     let es = ticksBelow 32 (a .self) in
-    let e = ap (λ (x : Kernel). withClock x ((a .self .clock + 1) % 4294967296)) y ∙ sym (applied-append (a .self) es clock) in
+    let e = ap (λ (x : Kernel). withClock x (nextTime (a .self .clock))) y ∙ sym (applied-append (a .self) es clock) in
     let o = m ∙ sym (ap (λ (xs : List ℕ). length xs) (gathered-append (mover endsb) es clock ∙ append-nil (movers endsb es))) in
-    rw is-carried (c .carried .ensures ∙ rw (c .before .before .before .before .wrapping-add-u32 .ensures) (carried-as (a .self) _ _ (es ++ clock) e o) ∙ ap answerOf (sym (tick-same (a .self))))
+    rw is-carried (c .carried .ensures ∙ rw (c .before .before .before .before .next-time .ensures) (carried-as (a .self) _ _ (es ++ clock) e o) ∙ ap answerOf (sym (tick-same (a .self))))
 
 pub tick-spec : {M : Type 1} → statement M
 unfolding ticksBelow applied gathered withScheduler

@@ -15,7 +15,7 @@ use Rattle.lines.proofs.Laws.Less
 use Rattle.scheduler.specs.declared.thread.Thread.{Thread}
 use Rattle.calls.specs.Held.{noWords}
 use Rattle.calls.specs.Chains.{tickRefusal}
-use Rattle.waiting.specs.Ticks.{timedb, lastTickb}
+use Rattle.waiting.specs.Ticks.{nextTime, timedb, lastTickb}
 use Rattle.kernel.specs.declared.Kernel.{Kernel}
 use Rattle.kernel.specs.Tables.{threadOf}
 use Rattle.kernel.specs.Sound.{Fit}
@@ -25,7 +25,7 @@ use Rattle.kernel.specs.Edits.Move.{ends}
 use Rattle.kernel.specs.Edits.Edit.{moves, counts, sets}
 use Rattle.kernel.specs.Edits.Success.{done}
 use Rattle.kernel.specs.Roles.{mayMoveb, mayb, allb}
-use Rattle.kernel.specs.Clock.{clockEffect, clockSetEffect, nextTime}
+use Rattle.kernel.specs.Clock.{clockEffect, clockSetEffect}
 use Rattle.kernel.proofs.Laws.Edits
 use Rattle.kernel.proofs.Laws.Ticks.{tickOf, ticksBelow, onePass, tick-movers, below-other}
 use Rattle.kernel.proofs.Laws.Fits
