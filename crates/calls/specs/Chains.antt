@@ -30,6 +30,10 @@ firstOf a b = if eqb a 0 then b else a
 abbrev pub mayWaitb : ℕ → ℕ → Bool
 mayWaitb wait caller = eqb wait 0 || eqb caller thread
 
+-- a thread calls and nobody runs; every call asks this before its own chain
+abbrev pub nobodyRunsb : ℕ → ℕ → Bool
+nobodyRunsb caller running = eqb caller thread && not (ltb running nobody)
+
 -- ---- threads: t is the number, th its record
 -- 1 create: 0E 0F 18 10 13
 unfoldable pub createRefusal : ℕ → Thread → ℕ → ℕ → ℕ → ℕ → ℕ

@@ -1,6 +1,6 @@
 // For each call the first reason that refuses it, in the order of the table of refusals; 0 where there is none.
 ghost use mathlib.Core.Path.{_≡_};
-ghost use Rattle.calls.specs.Chains.{unless, firstOf, createRefusal, deleteRefusal, resumeRefusal, suspendRefusal, terminateRefusal, resetRefusal, threadOnlyRefusal, abortRefusal, priorityRefusal, preemptionRefusal, tickRefusal, readRefusal, semaphoreCreateRefusal, semaphoreDeleteRefusal, semaphoreGetRefusal, putRefusal, ceilingRefusal, semaphoreRefusal, queueCreateRefusal, queueDeleteRefusal, sendRefusal, receiveRefusal, queueRefusal, groupCreateRefusal, groupDeleteRefusal, setRefusal, getRefusal, poolCreateRefusal, poolDeleteRefusal, allocateRefusal, releaseRefusal, poolRefusal};
+ghost use Rattle.calls.specs.Chains.{nobodyRunsb, unless, firstOf, createRefusal, deleteRefusal, resumeRefusal, suspendRefusal, terminateRefusal, resetRefusal, threadOnlyRefusal, abortRefusal, priorityRefusal, preemptionRefusal, tickRefusal, readRefusal, semaphoreCreateRefusal, semaphoreDeleteRefusal, semaphoreGetRefusal, putRefusal, ceilingRefusal, semaphoreRefusal, queueCreateRefusal, queueDeleteRefusal, sendRefusal, receiveRefusal, queueRefusal, groupCreateRefusal, groupDeleteRefusal, setRefusal, getRefusal, poolCreateRefusal, poolDeleteRefusal, allocateRefusal, releaseRefusal, poolRefusal};
 use super::call::INTERRUPT;
 use super::call::STARTUP;
 use super::call::THREAD;
@@ -65,6 +65,13 @@ fn first(a: u32, b: u32) -> u32
     ensures { λ r. ⌜ r ≡ firstOf a b ⌝ }
 {
     if a == 0 { b } else { a }
+}
+
+// Whether a thread calls and nobody runs.
+pub fn nobody_runs(caller: u32, running: ThreadId) -> bool
+    ensures { λ r. ⌜ r ≡ nobodyRunsb caller (running .0) ⌝ }
+{
+    (caller == THREAD) & !(running.0 < NOBODY)
 }
 
 pub fn create(

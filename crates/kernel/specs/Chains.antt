@@ -1,15 +1,12 @@
 -- What the code's step finds: the chains of the calls, each the call's own part of the table of refusals. Nothing here needs to be
 -- believed: that the table says the same is proved (proofs/Laws/Refusals.antt).
 use mathlib.Core.List.{List}
-use mathlib.Core.Bool.{Bool, _&&_, not}
 use Prim.Native.Nat.{ℕ}
-use lib.Dec.{eqb, ltb}
 use lib.ListN.{length}
-use Rattle.numbers.specs.Numbers.{nobody}
 use Rattle.lines.specs.Logic.{if_then_else_}
-use Rattle.calls.specs.Callers.{thread}
 use Rattle.calls.specs.Statuses as Statuses
 use Rattle.calls.specs.Chains.{
+  nobodyRunsb,
   createRefusal,
   deleteRefusal,
   resumeRefusal,
@@ -130,10 +127,6 @@ chainOf k caller (BlockPoolPrioritize n) messages = poolRefusal (poolAt k (n .0)
 chainOf k caller (ThreadStateRead t) messages = readRefusal (threadOf k (t .0))
 chainOf k caller (ThreadWordsRead t) messages = readRefusal (threadOf k (t .0))
 
--- a thread calls and nobody runs
-abbrev pub nobodyRunsb : ℕ → ℕ → Bool
-nobodyRunsb caller running = eqb caller thread && not (ltb running nobody)
-
--- that reason comes before the chain
+-- that nobody runs comes before the chain
 unfoldable pub chained : Kernel → ℕ → Call → List ℕ → ℕ
 chained k caller call messages = if nobodyRunsb caller (runnerOf k) then Statuses.nobodyRuns else chainOf k caller call messages

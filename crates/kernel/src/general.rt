@@ -9,8 +9,8 @@ use super::Kernel;
 use calls::call::Call;
 use calls::call::Decoded;
 use calls::call::Request;
-use calls::call::THREAD;
 use calls::call::decode;
+use calls::refusal::nobody_runs;
 use calls::status::NOBODY_RUNS;
 use calls::status::TABLES_UNSOUND;
 use calls::status::UNKNOWN_CALL;
@@ -45,7 +45,7 @@ impl Kernel {
     {
         let s = self.scheduler;
         let running = s.running;
-        if (caller == THREAD) & !(running.0 < NOBODY) {
+        if nobody_runs(caller, running) {
             return self.refused(NOBODY_RUNS);
         }
         match call {

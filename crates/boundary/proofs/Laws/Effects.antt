@@ -46,7 +46,8 @@ use Rattle.kernel.specs.Semaphores.{semaphoreGetEffect, putEffect}
 use Rattle.kernel.specs.Queues.{sendEffect, pastEffect, receiveEffect, flushEffect}
 use Rattle.kernel.specs.Groups.{setOrEffect, setEffect, flagsGetEffect}
 use Rattle.kernel.specs.Pools.{allocateEffect, releaseEffect}
-use Rattle.kernel.specs.Chains.{chainOf, nobodyRunsb, chained}
+use Rattle.calls.specs.Chains.{nobodyRunsb}
+use Rattle.kernel.specs.Chains.{chainOf, chained}
 use Rattle.kernel.specs.General.{effectOf}
 use Rattle.kernel.proofs.Laws.Answers.{put-low, ceiling-low}
 use Rattle.kernel.proofs.Laws.Objects.{by-kind}

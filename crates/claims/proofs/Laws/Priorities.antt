@@ -23,7 +23,7 @@ use Rattle.scheduler.proofs.Laws.Claims as Scheduler
 use Rattle.scheduler.proofs.Laws.States.{created-small}
 use Rattle.calls.specs.Statuses as Statuses
 use Rattle.calls.specs.Calls.{decoded, knownCall}
-use Rattle.calls.specs.Chains.{priorityRefusal}
+use Rattle.calls.specs.Chains.{nobodyRunsb, priorityRefusal}
 use Rattle.calls.specs.Held.{oneWord}
 use Rattle.calls.specs.declared.call.Request.{Request}
 use Rattle.calls.specs.declared.call.Decoded.{Decoded}
@@ -36,7 +36,7 @@ use Rattle.kernel.specs.Answers.{Outcome, answerOf, refused}
 use Rattle.kernel.specs.Edits.{recordBy, heldBy, frontb, edited, applied, gathered, endsb, statusOf, carriedOut, guarded}
 use Rattle.kernel.specs.Threads.{priorityEffect}
 use Rattle.kernel.specs.Refusals.{reasonOf}
-use Rattle.kernel.specs.Chains.{chainOf, nobodyRunsb, chained}
+use Rattle.kernel.specs.Chains.{chainOf, chained}
 use Rattle.kernel.specs.General.{effectOf, stepOf, step}
 use Rattle.kernel.proofs.Laws.Answers.{second-none}
 use Rattle.kernel.proofs.Laws.Effects.{is-true}

@@ -15,7 +15,7 @@ use Rattle.scheduler.proofs.Laws.Orders.{line-count}
 use Rattle.calls.specs.Statuses as Statuses
 use Rattle.calls.specs.Callers.{oneOf}
 use Rattle.calls.specs.Calls.{decoded, knownCall}
-use Rattle.calls.specs.Chains.{unless, firstOf, putRefusal, ceilingRefusal}
+use Rattle.calls.specs.Chains.{nobodyRunsb, unless, firstOf, putRefusal, ceilingRefusal}
 use Rattle.calls.specs.declared.call.Request.{Request}
 use Rattle.calls.specs.declared.call.Decoded.{Decoded}
 use Rattle.calls.specs.declared.call.Decoded.the-variants.{Known, Unknown}
@@ -30,7 +30,7 @@ use Rattle.kernel.specs.Answers.{Outcome, answerOf, refused}
 use Rattle.kernel.specs.Edits.{Success, statusOf, carriedOut, guarded}
 use Rattle.kernel.specs.Edits.Success.{done, lifted, waits}
 use Rattle.kernel.specs.Refusals.{reasonOf}
-use Rattle.kernel.specs.Chains.{chainOf, nobodyRunsb, chained}
+use Rattle.kernel.specs.Chains.{chainOf, chained}
 use Rattle.kernel.specs.General.{effectOf, stepOf, step}
 use Rattle.kernel.proofs.Laws.Objects
 use Rattle.kernel.proofs.Laws.Refusals.{Same, same-reason}

@@ -23,7 +23,8 @@ use Rattle.kernel.specs.Loops.{answered}
 use Rattle.kernel.specs.Sound.{soundb}
 use Rattle.kernel.specs.Edits.{Edit, applied, movers, endsb, statusOf, Effect, carriedOut, guarded}
 use Rattle.kernel.specs.Effects.{does}
-use Rattle.kernel.specs.Chains.{chainOf, nobodyRunsb, chained}
+use Rattle.calls.specs.Chains.{nobodyRunsb}
+use Rattle.kernel.specs.Chains.{chainOf, chained}
 use Rattle.kernel.specs.General.{effectOf, stepOf, step, unsound, call}
 use Rattle.kernel.proofs.Laws.Refusals.{Same, same-reason}
 use Rattle.kernel.proofs.Laws.Answers.{is-refused}

@@ -25,7 +25,8 @@ use Rattle.objects.specs.Groups.{metb}
 use Rattle.kernel.specs.Tables.{threadOf, runnerOf, semaphoreAt, queueAt, groupAt, poolAt}
 use Rattle.kernel.specs.Roles.{limitOf}
 use Rattle.kernel.specs.Refusals.{Reason, refusals, firstReason, reasonOf}
-use Rattle.kernel.specs.Chains.{chainOf, nobodyRunsb, chained}
+use Rattle.calls.specs.Chains.{nobodyRunsb}
+use Rattle.kernel.specs.Chains.{chainOf, chained}
 
 -- ---- what a row says, and what the chain's link tests
 not-not : (x : Bool) → x ≡ not (not x)

@@ -20,7 +20,8 @@ use Rattle.kernel.specs.Sound.{Sound}
 use Rattle.kernel.specs.Roles.{limitOf}
 use Rattle.kernel.specs.Edits.{guarded}
 use Rattle.kernel.specs.Refusals.{reasonOf}
-use Rattle.kernel.specs.Chains.{chainOf, nobodyRunsb, chained}
+use Rattle.calls.specs.Chains.{nobodyRunsb}
+use Rattle.kernel.specs.Chains.{chainOf, chained}
 use Rattle.kernel.specs.General.{effectOf, stepOf, step}
 use Rattle.kernel.specs.Claims.{doneb, Unchanged}
 use Rattle.kernel.proofs.Laws.Refusals.{Same, same-reason, reason-known}

@@ -1,4 +1,4 @@
-use mathlib.Core.Path.{_≡_, refl, ap, _∙_}
+use mathlib.Core.Path.{_≡_, refl, sym, ap, _∙_}
 use borrow.Author.Needs.{needs}
 use Rattle.calls.specs.declared.call.Call.{Call}
 use Rattle.kernel.specs.Answers.{answerOf}
@@ -18,15 +18,15 @@ module _ (k : tie.Else1) where
       {y : Call} → start .args .call ≡ y → let x = start .args in
       answerOf (guarded (x .self) (chainOf (x .self) (x .caller) y (x .messages .now)) (effectOf (x .self) y (x .messages .now)))
       ≡ answerOf (guarded (x .self) (chained (x .self) (x .caller) (x .call) (x .messages .now)) (effectOf (x .self) (x .call) (x .messages .now)))
-  served e = ap answerOf (on-served _ _ _ (k .if1 .left) e)
+  served e = ap answerOf (on-served _ _ _ (sym (k .before .nobody-runs .ensures) ∙ k .if1 .left) e)
 
 pub step-spec : {M : Type 1} → statement M
 unfolding chainOf effectOf chained guarded
 step-spec =
     tie.close
     (tie.spec
-    (λ c κs. search needs)
-    (λ c. c .refused .ensures ∙ rw (c .before .if1 .taken) refl)
+    (λ c κs. search needs) (λ c κs. search needs)
+    (λ c. c .refused .ensures ∙ rw (sym (c .before .before .nobody-runs .ensures) ∙ c .before .if1 .taken) refl)
     -- of each variant: that it is the one, what its service asks, and its answer
     (λ c. search needs) (λ c κs. search needs)
     (λ c. c .thread-create .ensures ∙ served (c .before .before .before .before) (c .before .before .call .given .1))
