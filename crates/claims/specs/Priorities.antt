@@ -12,7 +12,7 @@ use Rattle.calls.specs.Services.{threadPriorityChange}
 use Rattle.calls.specs.Held.{oneWord}
 use Rattle.kernel.specs.declared.Kernel.{Kernel}
 use Rattle.kernel.specs.declared.Answer.{Answer}
-use Rattle.kernel.specs.Tables.{threadOf, runnerOf}
+use Rattle.kernel.specs.Tables.{threadOf, runnerOf, withScheduler}
 use Rattle.kernel.specs.Sound.{Sound}
 use Rattle.claims.specs.Lists.{Made, answer}
 use Rattle.claims.specs.Rolls.{succeedsb}
@@ -22,6 +22,8 @@ pub record PriorityChanged (k : Kernel) (t p : ℕ) (r : Answer) : Type 0 where
   -- word 0 is the old priority, and no wait ends
   pub words : r .words ≡ oneWord (threadOf k t .priority)
   pub ended : r .ended ≡ 0
+  -- no table but that of threads and orders changes
+  pub rest : r .kernel ≡ withScheduler k (r .kernel .scheduler)
   -- priority and threshold are p, the mark has ended, and a lowered runner gives way to a better thread and to no other
   pub thread : Reprioritised (k .scheduler) t p (r .kernel .scheduler)
   pub next : r .next .0 ≡ runnerOf (r .kernel)

@@ -25,7 +25,7 @@ use Rattle.scheduler.specs.Orders.{
   prioritisedAt,
 }
 use Rattle.scheduler.specs.Choice.{rescheduled, relinquished}
-use Rattle.scheduler.specs.Changes.{withPriority, priorityChanged, preemptionChanged}
+use Rattle.scheduler.specs.Changes.{withLevels, withPriority, priorityChanged, preemptionChanged}
 use Rattle.scheduler.specs.Sound.{fitb, soundb, Steady, Sound}
 
 -- rule 6.6: what priority change of thread t to p makes of s, once the choice is made
@@ -36,6 +36,8 @@ pub record Reprioritised (s : Scheduler) (t p : ℕ) (x : Scheduler) : Type 0 wh
   pub unmarked : threadAt x t .marked ≡ false
   -- nobody else's change
   pub others : (u : ℕ) → (u ≡ t → ⊥) → (priorityAt x u ≡ priorityAt s u) × (thresholdAt x u ≡ thresholdAt s u)
+  -- but for priority, threshold and mark every record is as it was
+  pub kept : (u : ℕ) → withLevels 0 0 (threadAt x u) ≡ withLevels 0 0 (threadAt s u)
   -- if it ran, it gives way where another ready thread is better than p, to one at least as good
   pub givesWay : runner s ≡ t → (u : ℕ) → (u ≡ t → ⊥) → readyb (threadAt s u) ≡ true → priorityAt s u < p
       → (runner x ≡ t → ⊥) × (priorityAt x (runner x) ≤ priorityAt s u)

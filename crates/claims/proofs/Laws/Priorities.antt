@@ -6,6 +6,7 @@ use Prim.Native.Nat.{ℕ, _<_, min}
 use native.Mathlib.Omega.{arith}
 use lib.Dec.{eqb, ltb}
 use lib.ListN.{length}
+use lib.Seq.{set-getD}
 use borrow.Author.Tests.{eqb-true, eq-eqb, ltb-true}
 use Rattle.lines.specs.Logic.{if_then_else_}
 use Rattle.lines.specs.Lists.{without, onlyIf}
@@ -30,7 +31,7 @@ use Rattle.calls.specs.declared.call.Decoded.{Decoded}
 use Rattle.calls.specs.declared.call.Decoded.the-variants.{Known, Unknown}
 use Rattle.kernel.specs.declared.Kernel.{Kernel}
 use Rattle.kernel.specs.declared.Answer.{Answer}
-use Rattle.kernel.specs.Tables.{threadOf, runnerOf, withScheduler, withHeld}
+use Rattle.kernel.specs.Tables.{threadOf, runnerOf, heldAt, withScheduler, withHeld}
 use Rattle.kernel.specs.Sound.{Sound}
 use Rattle.kernel.specs.Answers.{Outcome, answerOf, refused}
 use Rattle.kernel.specs.Edits.{recordBy, heldBy, frontb, edited, applied, gathered, endsb, statusOf, carriedOut, guarded}
@@ -66,6 +67,10 @@ module _ (k : Kernel) (t p : ℕ) where
   changes : carriedOut k (priorityEffect k t p) .kernel .scheduler ≡ rescheduled (priorityChanged (k .scheduler) t p) false
   unfolding carriedOut applied edited recordBy heldBy frontb joined withHeld withScheduler priorityEffect priorityChanged
   changes = by-test (readyb (threadOf k t)) (λ r. rw r) (λ r. rw r)
+
+  rest-kept : carriedOut k (priorityEffect k t p) .kernel ≡ withScheduler k (carriedOut k (priorityEffect k t p) .kernel .scheduler)
+  unfolding carriedOut applied edited recordBy heldBy frontb joined withHeld withScheduler heldAt priorityEffect
+  rest-kept = by-test (readyb (threadOf k t)) (λ r. rw (r, set-getD) refl) (λ r. rw r refl)
 
   answered-words : carriedOut k (priorityEffect k t p) .words ≡ oneWord (threadOf k t .priority)
   unfolding carriedOut priorityEffect
@@ -137,6 +142,7 @@ module _ (k : Kernel) (S : Sound k) (m : Made) (number : m .request .number ≡ 
       record {
         words = answered-words k (min (q .a) 32) (q .b);
         ended = nobody-ended k (min (q .a) 32) (q .b);
+        rest = rest-kept k (min (q .a) 32) (q .b);
         thread = rw (changes k (min (q .a) 32) (q .b)) (Scheduler.claims .reprioritised (k .scheduler) (record { steady = S .fit .steady; runs = S .runs }) (min (q .a) 32) (q .b) small created low);
         next = refl;
         joins = joined-last k S (min (q .a) 32) (q .b) small created low;

@@ -1,19 +1,19 @@
 -- Priority change and preemption change leave steady tables steady, and everybody else where it stood; who runs after a priority change.
 use mathlib.Core.Path.{_≡_, refl, sym, ap, _∙_}
 use mathlib.Core.List.{_++_}
-use mathlib.Core.Bool.{true, false, _||_, not}
+use mathlib.Core.Bool.{Bool, true, false, _||_, not, and-false}
 use Prim.Native.Nat.{ℕ, _≤_, _<_}
 use native.Mathlib.Omega.{arith}
 use lib.Dec.{ltb}
 use borrow.Author.Tests.{ltb-true, lt-ltb}
 use Rattle.lines.specs.Lists.{without, onlyIf}
-use Rattle.lines.proofs.Laws.Logic.{by-test, and-left, and-right, and-in, or-right}
+use Rattle.lines.proofs.Laws.Logic.{by-test, by-eq, and-left, and-right, and-in, or-right}
 use Rattle.scheduler.specs.declared.thread.Thread.{Thread}
 use Rattle.scheduler.specs.declared.thread.Place.{Place}
 use Rattle.scheduler.specs.declared.Scheduler.{Scheduler}
 use Rattle.scheduler.specs.Threads.{readyb, placedb}
 use Rattle.scheduler.specs.Orders.{threadAt, priorityAt, thresholdAt, runner, lineAt, withThread, withOrder, withRunner, moved}
-use Rattle.scheduler.specs.Choice.{bestReady, staysb, overtakesb, replaced, dispatched, rescheduled}
+use Rattle.scheduler.specs.Choice.{bestReady, staysb, overtakesb, withMark, replaced, dispatched, rescheduled}
 use Rattle.scheduler.specs.Changes.{withLevels, withPriority, priorityChanged, preemptionChanged}
 use Rattle.scheduler.specs.Sound.{fitb, Steady, Sound}
 use Rattle.scheduler.specs.Claims.{Reprioritised}
@@ -65,6 +65,13 @@ module _ (s : Scheduler) (S : Steady s) (t : ℕ) (small : t < 32) (created : th
       (λ r. rw (changed-ready p r) (Orders.moved-other s S t (changed p) small u n))
       (λ r. rw (changed-other p r) (Orders.kept-other s S t (changed p) small u n))
 
+  -- what the changed record has in common with the old one, every thread keeps
+  priority-keeps : (p : ℕ) {X : Type 0} (g : Thread → X) → g (changed p) ≡ g (threadAt s t) → (u : ℕ) → g (threadAt (priorityChanged s t p) u) ≡ g (threadAt s u)
+  priority-keeps p g h u =
+      by-eq u t
+      (λ e. ap (λ (n : ℕ). g (threadAt (priorityChanged s t p) n)) e ∙ ap g (priority-self p) ∙ h ∙ ap (λ (n : ℕ). g (threadAt s n)) (sym e))
+      (λ e. ap g (priority-others p u e))
+
   -- and nobody else begins to run by it
   priority-runner : (p : ℕ) → runner (priorityChanged s t p) ≡ runner s
   unfolding moved withOrder withThread
@@ -84,6 +91,22 @@ module _ (s : Scheduler) (S : Steady s) (t : ℕ) (small : t < 32) (created : th
   pub preemption-line : (h : ℕ) (q : Place) → lineAt (preemptionChanged s t h) q ≡ lineAt s q
   unfolding preemptionChanged
   preemption-line h q = Orders.kept-line s S t (shifted h) small q (same-levels-placed h (threadAt s t) q)
+
+-- what a record has beside its levels and its mark
+bare : Bool → ℕ → ℕ → Thread → Thread
+bare b p h th = record { created = th .created; state = th .state; priority = p; threshold = h; marked = b; suspending = th .suspending; object = th .object; ticks = th .ticks }
+
+bare-levels : (th : Thread) → withLevels 0 0 th ≡ bare false 0 0 th
+unfolding withLevels bare
+bare-levels th = ap (λ (b : Bool). bare b 0 0 th) (and-false (th .marked))
+
+mark-bare : (b : Bool) (th : Thread) → withLevels 0 0 (withMark b th) ≡ withLevels 0 0 th
+unfolding withMark bare
+mark-bare b th = bare-levels (withMark b th) ∙ sym (bare-levels th)
+
+priority-bare : (p : ℕ) (th : Thread) → withLevels 0 0 (withPriority p th) ≡ withLevels 0 0 th
+unfolding withLevels bare
+priority-bare p th = bare-levels (withPriority p th) ∙ sym (bare-levels th)
 
 -- ---- the choice after a priority change
 module _ (s : Scheduler) (S : Sound s) (t p : ℕ) (small : t < 32) (created : threadAt s t .created ≡ true) (low : p < 32) where
@@ -190,6 +213,7 @@ module _ (s : Scheduler) (S : Sound s) (t p : ℕ) (small : t < 32) (created : t
         unmarked = unmarked;
         others = λ u n. (let e = priority-others s (S .steady) t small created p u n in
             (chosen-priority u ∙ ap (λ (th : Thread). th .priority) e, chosen-threshold u ∙ ap (λ (th : Thread). th .threshold) e));
+        kept = λ u. Choosing.rescheduled-keeps y Y (withLevels 0 0) mark-bare false u ∙ priority-keeps s (S .steady) t small created p (withLevels 0 0) (priority-bare p (threadAt s t)) u;
         givesWay = gives-way;
         goesOn = goes;
       }
