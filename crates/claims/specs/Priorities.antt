@@ -1,12 +1,7 @@
 -- What a priority change does (rule 6.6), said of the general call on any sound tables.
 use mathlib.Core.Path.{_≡_}
-use mathlib.Core.List.{[], _∷_, _++_}
-use mathlib.Core.Bool.{true, false}
+use mathlib.Core.Bool.{true}
 use Prim.Native.Nat.{ℕ}
-use Rattle.lines.specs.Lists.{without}
-use Rattle.scheduler.specs.declared.thread.Place.{Place}
-use Rattle.scheduler.specs.Threads.{readyb, readyAt}
-use Rattle.scheduler.specs.Orders.{lineAt}
 use Rattle.scheduler.specs.Claims.{Reprioritised}
 use Rattle.calls.specs.Services.{threadPriorityChange}
 use Rattle.calls.specs.Held.{oneWord}
@@ -24,14 +19,11 @@ pub record PriorityChanged (k : Kernel) (t p : ℕ) (r : Answer) : Type 0 where
   pub ended : r .ended ≡ 0
   -- no table but that of threads and orders changes
   pub rest : r .kernel ≡ withScheduler k (r .kernel .scheduler)
-  -- priority and threshold are p, the mark has ended, and a lowered runner gives way to a better thread and to no other
+  -- priority and threshold are p, the mark has ended, a ready thread stands last in its new order, and a lowered runner gives way to a
+  -- better thread and to no other
   pub thread : Reprioritised (k .scheduler) t p (r .kernel .scheduler)
+  -- whoever then runs is the answer's next thread
   pub next : r .next .0 ≡ runnerOf (r .kernel)
-  -- a ready thread stands last in its new order
-  pub joins : readyb (threadOf k t) ≡ true
-      → lineAt (r .kernel .scheduler) (readyAt p) ≡ without t (lineAt (k .scheduler) (readyAt p)) ++ (t ∷ [])
-  -- any other keeps its place, and so does everybody
-  pub keepsPlace : readyb (threadOf k t) ≡ false → (q : Place) → lineAt (r .kernel .scheduler) q ≡ lineAt (k .scheduler) q
 
 -- rule 6.6: of every call 11 that is done
 abbrev pub PriorityClaim : Type 0

@@ -25,7 +25,7 @@ use Rattle.scheduler.specs.Orders.{
   prioritisedAt,
 }
 use Rattle.scheduler.specs.Choice.{rescheduled, relinquished}
-use Rattle.scheduler.specs.Changes.{withLevels, withPriority, priorityChanged, preemptionChanged}
+use Rattle.scheduler.specs.Changes.{withLevels, priorityChanged, preemptionChanged}
 use Rattle.scheduler.specs.Sound.{fitb, soundb, Steady, Sound}
 
 -- rule 6.6: what priority change of thread t to p makes of s, once the choice is made
@@ -38,6 +38,10 @@ pub record Reprioritised (s : Scheduler) (t p : ℕ) (x : Scheduler) : Type 0 wh
   pub others : (u : ℕ) → (u ≡ t → ⊥) → (priorityAt x u ≡ priorityAt s u) × (thresholdAt x u ≡ thresholdAt s u)
   -- but for priority, threshold and mark every record is as it was
   pub kept : (u : ℕ) → withLevels 0 0 (threadAt x u) ≡ withLevels 0 0 (threadAt s u)
+  -- if it is ready it stands last in the order of its new place, and all others stand as they stood
+  pub joins : readyb (threadAt s t) ≡ true → (q : Place) → lineAt x q ≡ without t (lineAt s q) ++ onlyIf (placedb q (threadAt x t)) t
+  -- if not it keeps its place, as everybody does
+  pub keepsPlace : readyb (threadAt s t) ≡ false → (q : Place) → lineAt x q ≡ lineAt s q
   -- if it ran, it gives way where another ready thread is better than p, to one at least as good
   pub givesWay : runner s ≡ t → (u : ℕ) → (u ≡ t → ⊥) → readyb (threadAt s u) ≡ true → priorityAt s u < p
       → (runner x ≡ t → ⊥) × (priorityAt x (runner x) ≤ priorityAt s u)
@@ -78,13 +82,7 @@ pub record Claims : Type 0 where
   -- rule 5.8: prioritise moves the first of the best priority to the front of its place, and nothing else
   pub prioritisedHere : (s : Scheduler) → Steady s → (p : Place) → lineAt (prioritisedAt s p) p ≡ prioritised (priorityAt s) (lineAt s p)
   pub prioritisedElsewhere : (s : Scheduler) → Steady s → (p q : Place) → (q ≡ p → ⊥) → lineAt (prioritisedAt s p) q ≡ lineAt s q
-  -- rule 6.6: priority change moves a ready thread to the end of its new order; a thread that is not ready keeps its place
-  pub priorityLine : (s : Scheduler) → Steady s → (t p : ℕ) → t < nobody → threadAt s t .created ≡ true → p < priorities
-      → readyb (threadAt s t) ≡ true → (q : Place) → lineAt (priorityChanged s t p) q
-      ≡ without t (lineAt s q) ++ onlyIf (placedb q (withPriority p (threadAt s t))) t
-  pub priorityKept : (s : Scheduler) → Steady s → (t p : ℕ) → t < nobody → threadAt s t .created ≡ true → readyb (threadAt s t) ≡ false
-      → (q : Place) → lineAt (priorityChanged s t p) q ≡ lineAt s q
-  -- rule 6.6: what it makes of the thread's levels, of its mark, and of a runner
+  -- rule 6.6: what priority change makes of the thread's levels, its mark and its place, and of a runner
   pub reprioritised : (s : Scheduler) → Sound s → (t p : ℕ) → t < nobody → threadAt s t .created ≡ true → p < priorities
       → Reprioritised s t p (rescheduled (priorityChanged s t p) false)
   -- rule 6.7: preemption change moves nobody, and neither does the choice

@@ -1,25 +1,18 @@
 -- What a priority change does, by the scheduler's claims.
 use mathlib.Core.Path.{_≡_, refl, sym, ap, _∙_, subst}
-use mathlib.Core.List.{List, [], _∷_, _++_}
-use mathlib.Core.Bool.{Bool, true, false}
+use mathlib.Core.List.{List}
+use mathlib.Core.Bool.{true, false}
 use Prim.Native.Nat.{ℕ, _<_, min}
 use native.Mathlib.Omega.{arith}
 use lib.Dec.{eqb, ltb}
 use lib.ListN.{length}
 use lib.Seq.{set-getD}
 use borrow.Author.Tests.{eqb-true, eq-eqb, ltb-true}
-use Rattle.lines.specs.Logic.{if_then_else_}
-use Rattle.lines.specs.Lists.{without, onlyIf}
-use Rattle.lines.proofs.Laws.Logic.{by-test, by-choice, never, and-left, and-right}
-use Rattle.scheduler.specs.declared.thread.Thread.{Thread}
-use Rattle.scheduler.specs.declared.thread.Place.{Place}
-use Rattle.scheduler.specs.declared.Scheduler.{Scheduler}
-use Rattle.scheduler.specs.Threads.{readyb, waitsb, standsb, numberOf, placedb, readyAt}
-use Rattle.scheduler.specs.Orders.{lineAt, joined}
+use Rattle.lines.proofs.Laws.Logic.{by-test, by-choice, never}
+use Rattle.scheduler.specs.Threads.{readyb}
+use Rattle.scheduler.specs.Orders.{joined}
 use Rattle.scheduler.specs.Choice.{rescheduled}
-use Rattle.scheduler.specs.Changes.{withLevels, withPriority, priorityChanged}
-use Rattle.scheduler.specs.Claims.{Reprioritised}
-use Rattle.scheduler.specs.Sound as Scheduling
+use Rattle.scheduler.specs.Changes.{priorityChanged}
 use Rattle.scheduler.proofs.Laws.Claims as Scheduler
 use Rattle.scheduler.proofs.Laws.States.{created-small}
 use Rattle.calls.specs.Statuses as Statuses
@@ -80,27 +73,6 @@ module _ (k : Kernel) (t p : ℕ) where
   unfolding carriedOut gathered endsb priorityEffect
   nobody-ended = by-test (readyb (threadOf k t)) (λ r. rw r) (λ r. rw r)
 
--- a ready thread of the new priority stands in its order
-ready-there : (p : ℕ) (th : Thread) → readyb th ≡ true → placedb (readyAt p) (withPriority p th) ≡ true
-unfolding placedb standsb numberOf readyb waitsb withLevels
-ready-there p th r = rw (and-left (th .created) _ r, eqb-true (th .state) 0 (and-right (th .created) _ r), eq-eqb p p refl) refl
-
--- the orders, where the thread is created and the priority known
-module _ (k : Kernel) (S : Sound k) (t p : ℕ) (small : t < 32) (created : threadOf k t .created ≡ true) (low : p < 32) where
-  abbrev steady : Scheduling.Steady (k .scheduler)
-  steady = S .fit .steady
-
-  line-after : (q : Place) → lineAt (carriedOut k (priorityEffect k t p) .kernel .scheduler) q ≡ lineAt (priorityChanged (k .scheduler) t p) q
-  line-after q = rw (changes k t p) (Scheduler.claims .choiceLine (priorityChanged (k .scheduler) t p) (Scheduler.claims .prioritySteady (k .scheduler) steady t p small created low) false q)
-
-  joined-last : readyb (threadOf k t) ≡ true → lineAt (carriedOut k (priorityEffect k t p) .kernel .scheduler) (readyAt p) ≡ without t (lineAt (k .scheduler) (readyAt p)) ++ (t ∷ [])
-  joined-last r =
-      line-after (readyAt p) ∙ Scheduler.claims .priorityLine (k .scheduler) steady t p small created low r (readyAt p)
-      ∙ ap (λ (b : Bool). without t (lineAt (k .scheduler) (readyAt p)) ++ onlyIf b t) (ready-there p (threadOf k t) r)
-
-  stands-as-before : readyb (threadOf k t) ≡ false → (q : Place) → lineAt (carriedOut k (priorityEffect k t p) .kernel .scheduler) q ≡ lineAt (k .scheduler) q
-  stands-as-before r q = line-after q ∙ Scheduler.claims .priorityKept (k .scheduler) steady t p small created r q
-
 module _ (k : Kernel) (S : Sound k) (m : Made) (number : m .request .number ≡ 11) (done : succeedsb (answer k m) ≡ true) where
   abbrev q : Request
   q = m .request
@@ -145,8 +117,6 @@ module _ (k : Kernel) (S : Sound k) (m : Made) (number : m .request .number ≡ 
         rest = rest-kept k (min (q .a) 32) (q .b);
         thread = rw (changes k (min (q .a) 32) (q .b)) (Scheduler.claims .reprioritised (k .scheduler) (record { steady = S .fit .steady; runs = S .runs }) (min (q .a) 32) (q .b) small created low);
         next = refl;
-        joins = joined-last k S (min (q .a) 32) (q .b) small created low;
-        keepsPlace = stands-as-before k S (min (q .a) 32) (q .b) small created low;
       }
 
   pub priority-changed : PriorityChanged k (q .a) (q .b) (answer k m)

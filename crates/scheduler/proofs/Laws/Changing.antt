@@ -17,7 +17,7 @@ use Rattle.scheduler.specs.Choice.{bestReady, staysb, overtakesb, withMa
 use Rattle.scheduler.specs.Changes.{withLevels, withPriority, priorityChanged, preemptionChanged}
 use Rattle.scheduler.specs.Sound.{fitb, Steady, Sound}
 use Rattle.scheduler.specs.Claims.{Reprioritised}
-use Rattle.scheduler.proofs.Laws.Threads.{fit-unmarked, fit-levels, levels-stands, levels-placed, same-levels-placed, mark-priority, mark-threshold}
+use Rattle.scheduler.proofs.Laws.Threads.{fit-unmarked, fit-levels, levels-stands, levels-placed, same-levels-placed, mark-placed, mark-priority, mark-threshold}
 use Rattle.scheduler.proofs.Laws.Orders
 use Rattle.scheduler.proofs.Laws.Choice.{is-replaced, goes-on}
 use Rattle.scheduler.proofs.Laws.Choosing
@@ -45,11 +45,11 @@ module _ (s : Scheduler) (S : Steady s) (t : ℕ) (small : t < 32) (created : th
       (λ r. rw (changed-other p r) (Orders.kept-steady s S t (changed p) small (levels-stands p p (threadAt s t)) (changed-fit p l)))
 
   -- a ready thread goes to the end of its new order
-  pub priority-line : (p : ℕ) → p < 32 → readyb (threadAt s t) ≡ true → (q : Place) → lineAt (priorityChanged s t p) q ≡ without t (lineAt s q) ++ onlyIf (placedb q (changed p)) t
+  priority-line : (p : ℕ) → p < 32 → readyb (threadAt s t) ≡ true → (q : Place) → lineAt (priorityChanged s t p) q ≡ without t (lineAt s q) ++ onlyIf (placedb q (changed p)) t
   priority-line p l r q = rw (changed-ready p r) (Orders.moved-line s S t (changed p) small (changed-fit p l) q)
 
   -- a thread that waits keeps its place in line
-  pub priority-kept : (p : ℕ) → readyb (threadAt s t) ≡ false → (q : Place) → lineAt (priorityChanged s t p) q ≡ lineAt s q
+  priority-kept : (p : ℕ) → readyb (threadAt s t) ≡ false → (q : Place) → lineAt (priorityChanged s t p) q ≡ lineAt s q
   priority-kept p r q = rw (changed-other p r) (Orders.kept-line s S t (changed p) small q (levels-placed p p (threadAt s t) r q))
 
   -- its record is the changed one, and nobody else's changes
@@ -93,12 +93,12 @@ module _ (s : Scheduler) (S : Steady s) (t : ℕ) (small : t < 32) (created : th
   preemption-line h q = Orders.kept-line s S t (shifted h) small q (same-levels-placed h (threadAt s t) q)
 
 -- what a record has beside its levels and its mark
-bare : Bool → ℕ → ℕ → Thread → Thread
-bare b p h th = record { created = th .created; state = th .state; priority = p; threshold = h; marked = b; suspending = th .suspending; object = th .object; ticks = th .ticks }
+bare : Bool → Thread → Thread
+bare b th = record { created = th .created; state = th .state; priority = 0; threshold = 0; marked = b; suspending = th .suspending; object = th .object; ticks = th .ticks }
 
-bare-levels : (th : Thread) → withLevels 0 0 th ≡ bare false 0 0 th
+bare-levels : (th : Thread) → withLevels 0 0 th ≡ bare false th
 unfolding withLevels bare
-bare-levels th = ap (λ (b : Bool). bare b 0 0 th) (and-false (th .marked))
+bare-levels th = ap (λ (b : Bool). bare b th) (and-false (th .marked))
 
 mark-bare : (b : Bool) (th : Thread) → withLevels 0 0 (withMark b th) ≡ withLevels 0 0 th
 unfolding withMark bare
@@ -140,6 +140,9 @@ module _ (s : Scheduler) (S : Sound s) (t p : ℕ) (small : t < 32) (created : t
 
   chosen-threshold : (u : ℕ) → thresholdAt x u ≡ thresholdAt y u
   chosen-threshold = Choosing.rescheduled-keeps y Y (λ th. th .threshold) mark-threshold false
+
+  chosen-placed : (q : Place) → placedb q (threadAt x t) ≡ placedb q (withPriority p (threadAt s t))
+  chosen-placed q = Choosing.rescheduled-keeps y Y (placedb q) (mark-placed q) false t ∙ ap (placedb q) (priority-self s (S .steady) t small created p)
 
   unmarked : threadAt x t .marked ≡ false
   unmarked =
@@ -214,6 +217,9 @@ module _ (s : Scheduler) (S : Sound s) (t p : ℕ) (small : t < 32) (created : t
         others = λ u n. (let e = priority-others s (S .steady) t small created p u n in
             (chosen-priority u ∙ ap (λ (th : Thread). th .priority) e, chosen-threshold u ∙ ap (λ (th : Thread). th .threshold) e));
         kept = λ u. Choosing.rescheduled-keeps y Y (withLevels 0 0) mark-bare false u ∙ priority-keeps s (S .steady) t small created p (withLevels 0 0) (priority-bare p (threadAt s t)) u;
+        joins = λ r q. Choosing.rescheduled-line y Y false q ∙ priority-line s (S .steady) t small created p low r q
+            ∙ ap (λ (b : Bool). without t (lineAt s q) ++ onlyIf b t) (sym (chosen-placed q));
+        keepsPlace = λ r q. Choosing.rescheduled-line y Y false q ∙ priority-kept s (S .steady) t small created p r q;
         givesWay = gives-way;
         goesOn = goes;
       }
