@@ -108,8 +108,8 @@ unfoldable pub suspendedGet : Kernel
 suspendedGet = made (made (made (withCount 0) 18 thread 0 forever 0 0) 4 interrupt 0 0 0 0) 19 interrupt 0 0 0 0
 
 -- rules 15.17, 15.18: runner 0 of a priority and a threshold changes its own priority while 1 of another priority is ready
-unfoldable pub reprioritised : ℕ → ℕ → ℕ → ℕ → Answer
-reprioritised priority threshold other new =
+unfoldable pub changesOwnPriority : ℕ → ℕ → ℕ → ℕ → Answer
+changesOwnPriority priority threshold other new =
     said (made (made started 1 startup 0 priority threshold 1) 1 startup 1 other other 1) 11 thread 0 new 0 0
 
 -- rules 15.1 to 15.12, 15.14, 15.15, 15.17, 15.18: the cases
@@ -163,7 +163,7 @@ pub record Cases : Type 0 where
   -- rule 15.15: the thread is served, and is then suspended
   pub suspendedServed : (threadOf suspendedGet 0 .state ≡ suspended) × (heldAt suspendedGet 0 .status ≡ Statuses.success)
   -- rule 15.17: priority 5 and threshold 5, changed to 10 while a 7 is ready: 7 runs, the old runner is not marked, and word 0 is 5
-  pub lowered : (reprioritised 5 5 7 10 .next .0 ≡ 1) × (threadOf (reprioritised 5 5 7 10 .kernel) 0 .marked ≡ false)
-      × (reprioritised 5 5 7 10 .words ≡ oneWord 5)
+  pub lowered : (changesOwnPriority 5 5 7 10 .next .0 ≡ 1) × (threadOf (changesOwnPriority 5 5 7 10 .kernel) 0 .marked ≡ false)
+      × (changesOwnPriority 5 5 7 10 .words ≡ oneWord 5)
   -- rule 15.18: a runner of priority 10 and threshold 3 raised to 8 while a 5 is ready: 5 runs
-  pub raised : (reprioritised 10 3 5 8 .next .0 ≡ 1) × (threadOf (reprioritised 10 3 5 8 .kernel) 0 .threshold ≡ 8)
+  pub raised : (changesOwnPriority 10 3 5 8 .next .0 ≡ 1) × (threadOf (changesOwnPriority 10 3 5 8 .kernel) 0 .threshold ≡ 8)

@@ -2,7 +2,7 @@
 use mathlib.Core.Path.{_≡_}
 use mathlib.Core.Bool.{true}
 use Prim.Native.Nat.{ℕ}
-use Rattle.scheduler.specs.Claims.{Reprioritised}
+use Rattle.scheduler.specs.Claims.{AfterPriorityChange}
 use Rattle.calls.specs.Services.{threadPriorityChange}
 use Rattle.calls.specs.Held.{oneWord}
 use Rattle.kernel.specs.declared.Kernel.{Kernel}
@@ -13,7 +13,7 @@ use Rattle.claims.specs.Lists.{Made, answer}
 use Rattle.claims.specs.Rolls.{succeedsb}
 
 -- rule 6.6: the answer to a priority change of thread t to p that is done
-pub record PriorityChanged (k : Kernel) (t p : ℕ) (r : Answer) : Type 0 where
+pub record PriorityAnswer (k : Kernel) (t p : ℕ) (r : Answer) : Type 0 where
   -- word 0 is the old priority, and no wait ends
   pub words : r .words ≡ oneWord (threadOf k t .priority)
   pub ended : r .ended ≡ 0
@@ -21,7 +21,7 @@ pub record PriorityChanged (k : Kernel) (t p : ℕ) (r : Answer) : Type 0 where
   pub rest : r .kernel ≡ withScheduler k (r .kernel .scheduler)
   -- priority and threshold are p, the mark has ended, a ready thread stands last in its new order, and a lowered runner gives way to a
   -- better thread and to no other
-  pub thread : Reprioritised (k .scheduler) t p (r .kernel .scheduler)
+  pub thread : AfterPriorityChange (k .scheduler) t p (r .kernel .scheduler)
   -- whoever then runs is the answer's next thread
   pub next : r .next .0 ≡ runnerOf (r .kernel)
 
@@ -29,4 +29,4 @@ pub record PriorityChanged (k : Kernel) (t p : ℕ) (r : Answer) : Type 0 where
 abbrev pub PriorityClaim : Type 0
 PriorityClaim =
     (k : Kernel) → Sound k → (m : Made) → m .request .number ≡ threadPriorityChange → succeedsb (answer k m) ≡ true
-    → PriorityChanged k (m .request .a) (m .request .b) (answer k m)
+    → PriorityAnswer k (m .request .a) (m .request .b) (answer k m)

@@ -29,7 +29,7 @@ use Rattle.scheduler.specs.Changes.{withLevels, priorityChanged, preempt
 use Rattle.scheduler.specs.Sound.{fitb, soundb, Steady, Sound}
 
 -- rule 6.6: what priority change of thread t to p makes of s, once the choice is made
-pub record Reprioritised (s : Scheduler) (t p : ℕ) (x : Scheduler) : Type 0 where
+pub record AfterPriorityChange (s : Scheduler) (t p : ℕ) (x : Scheduler) : Type 0 where
   -- its priority and its threshold are p, and it has no mark
   pub priority : priorityAt x t ≡ p
   pub threshold : thresholdAt x t ≡ p
@@ -83,8 +83,8 @@ pub record Claims : Type 0 where
   pub prioritisedHere : (s : Scheduler) → Steady s → (p : Place) → lineAt (prioritisedAt s p) p ≡ prioritised (priorityAt s) (lineAt s p)
   pub prioritisedElsewhere : (s : Scheduler) → Steady s → (p q : Place) → (q ≡ p → ⊥) → lineAt (prioritisedAt s p) q ≡ lineAt s q
   -- rule 6.6: what priority change makes of the thread's levels, its mark and its place, and of a runner
-  pub reprioritised : (s : Scheduler) → Sound s → (t p : ℕ) → t < nobody → threadAt s t .created ≡ true → p < priorities
-      → Reprioritised s t p (rescheduled (priorityChanged s t p) false)
+  pub afterPriorityChange : (s : Scheduler) → Sound s → (t p : ℕ) → t < nobody → threadAt s t .created ≡ true → p < priorities
+      → AfterPriorityChange s t p (rescheduled (priorityChanged s t p) false)
   -- rule 6.7: preemption change moves nobody, and neither does the choice
   pub preemptionLine : (s : Scheduler) → Steady s → (t h : ℕ) → t < nobody → threadAt s t .created ≡ true
       → (q : Place) → lineAt (preemptionChanged s t h) q ≡ lineAt s q

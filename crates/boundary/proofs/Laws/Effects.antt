@@ -10,7 +10,6 @@ use lib.ListN.{take, drop}
 use lib.Bits.{bitOr, bitXor, or-lt, and-le-l}
 use lib.Dec.{eqb, ltb}
 use Rattle.numbers.specs.Numbers.{messageWords, slots}
-use Rattle.lines.specs.Logic.{if_then_else_}
 use Rattle.lines.proofs.Laws.Logic.{by-choice}
 use Rattle.lines.proofs.Laws.Lines.{length-pad}
 use Rattle.scheduler.specs.declared.thread.Thread.{Thread}
@@ -27,7 +26,6 @@ use Rattle.calls.specs.declared.held.Held.{Held}
 use Rattle.calls.specs.Held.{noWords, oneWord, heldWaiting, sending, requesting, messageOf}
 use Rattle.calls.specs.Messages.{messageIn}
 use Rattle.calls.specs.Calls.{knownCall}
-use Rattle.calls.specs.Statuses as Statuses
 use Rattle.calls.specs.declared.call.Decoded.{Decoded}
 use Rattle.calls.specs.declared.call.Decoded.the-variants.{Known, Unknown}
 use Rattle.calls.proofs.Laws.Calls.{by-number}
@@ -46,10 +44,10 @@ use Rattle.kernel.specs.Semaphores.{semaphoreGetEffect, putEffect}
 use Rattle.kernel.specs.Queues.{sendEffect, pastEffect, receiveEffect, flushEffect}
 use Rattle.kernel.specs.Groups.{setOrEffect, setEffect, flagsGetEffect}
 use Rattle.kernel.specs.Pools.{allocateEffect, releaseEffect}
-use Rattle.calls.specs.Chains.{nobodyRunsb}
 use Rattle.kernel.specs.Chains.{chainOf, chained}
 use Rattle.kernel.specs.General.{effectOf}
 use Rattle.kernel.proofs.Laws.Answers.{put-low, ceiling-low}
+use Rattle.kernel.proofs.Laws.Refusals.{not-refused}
 use Rattle.kernel.proofs.Laws.Objects.{by-kind}
 use Rattle.words.specs.Words.{Word}
 use Rattle.codec.specs.Restored.{All, Array}
@@ -311,10 +309,6 @@ module _ (k : Kernel) (W : Worded k) where
 
   -- ---- every call
   module _ (caller a b c d : ℕ) (ha : Word a) (hb : Word b) (hc : Word c) (hd : Word d) (messages : List ℕ) (f : All Word messages) where
-    -- where a call by a known caller is not refused, its chain gives no reason
-    not-refused : (c : ℕ) → (if nobodyRunsb caller (runnerOf k) then Statuses.nobodyRuns else c) ≡ 0 → c ≡ 0
-    not-refused c = by-choice (λ (s : ℕ). s ≡ 0 → c ≡ 0) (nobodyRunsb caller (runnerOf k)) Statuses.nobodyRuns c (λ h e. absurd (omega (arith, e))) (λ h e. e)
-
     -- the edits of a call that is not refused
     abbrev pub KnownWords : ℕ → Decoded → Type 0
     KnownWords n (Known call) = chained k caller call messages ≡ 0 → EffectWords (effectOf k call messages)
@@ -341,8 +335,8 @@ module _ (k : Kernel) (W : Worded k) where
         by-number KnownWords n 16 _ _ (λ z. store-words k semaphore (min a 16) _ hb) (
         by-number KnownWords n 17 _ _ (λ z. remove-words k semaphore (min a 16)) (
         by-number KnownWords n 18 _ _ (λ z. take-words k W semaphore (min a 16) noWords b hb) (
-        by-number KnownWords n 19 _ _ (λ z. put-words (min a 16) (put-low (semaphoreAt k (min a 16)) (not-refused _ z))) (
-        by-number KnownWords n 20 _ _ (λ z. put-words (min a 16) (ceiling-low (semaphoreAt k (min a 16)) b hb (not-refused _ z))) (
+        by-number KnownWords n 19 _ _ (λ z. put-words (min a 16) (put-low (semaphoreAt k (min a 16)) (not-refused k caller _ z))) (
+        by-number KnownWords n 20 _ _ (λ z. put-words (min a 16) (ceiling-low (semaphoreAt k (min a 16)) b hb (not-refused k caller _ z))) (
         by-number KnownWords n 21 _ _ (λ z. rank-words k semaphore (min a 16)) (
         by-number KnownWords n 22 _ _ (λ z. store-words k queue (min a 8) _ (record { size = refl; each = all-replicate Word slots 0 (omega arith) })) (
         by-number KnownWords n 23 _ _ (λ z. remove-words k queue (min a 8)) (

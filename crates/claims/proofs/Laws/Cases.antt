@@ -48,7 +48,7 @@ use Rattle.kernel.specs.Tables as KernelTables
 use Rattle.kernel.specs.Views as KernelViews
 use Rattle.claims.specs.Lists.{Made, answer, next, after}
 use Rattle.claims.specs.Rolls as Rolls
-use Rattle.claims.specs.Cases.{called, said, made, withCount, p3a, p3b, waits, p9, asks, p4, p4set, p5, p6, p7, receive, p8, timedOutGet, timedOut, suspendedGet, reprioritised, Cases}
+use Rattle.claims.specs.Cases.{called, said, made, withCount, p3a, p3b, waits, p9, asks, p4, p4set, p5, p6, p7, receive, p8, timedOutGet, timedOut, suspendedGet, changesOwnPriority, Cases}
 use Rattle.claims.specs.Witnesses.{emptied, takeCall, giveCall, queued, waitingOn, refusedCall, beforeLast, Met, Witnesses}
 use Rattle.claims.proofs.Laws.Steps.{next-sound}
 use Rattle.claims.proofs.Laws.Claims.{firstComeFirstServed}
@@ -70,7 +70,7 @@ unfolding answer next after LinesLines.members LinesLines.pad LinesLines.lineOf 
 general = tt
 
 pub cases : Cases
-unfolding general called said made withCount p3a p3b waits p9 asks p4 p4set p5 p6 p7 receive p8 timedOutGet timedOut suspendedGet reprioritised
+unfolding general called said made withCount p3a p3b waits p9 asks p4 p4set p5 p6 p7 receive p8 timedOutGet timedOut suspendedGet changesOwnPriority
 cases =
     record {
       p1 = refl;

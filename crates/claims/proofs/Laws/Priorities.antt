@@ -17,27 +17,27 @@ use Rattle.scheduler.proofs.Laws.Claims as Scheduler
 use Rattle.scheduler.proofs.Laws.States.{created-small}
 use Rattle.calls.specs.Statuses as Statuses
 use Rattle.calls.specs.Calls.{decoded, knownCall}
-use Rattle.calls.specs.Chains.{nobodyRunsb, priorityRefusal}
+use Rattle.calls.specs.Chains.{priorityRefusal}
 use Rattle.calls.specs.Held.{oneWord}
 use Rattle.calls.specs.declared.call.Request.{Request}
 use Rattle.calls.specs.declared.call.Decoded.{Decoded}
 use Rattle.calls.specs.declared.call.Decoded.the-variants.{Known, Unknown}
 use Rattle.kernel.specs.declared.Kernel.{Kernel}
 use Rattle.kernel.specs.declared.Answer.{Answer}
-use Rattle.kernel.specs.Tables.{threadOf, runnerOf, heldAt, withScheduler, withHeld}
+use Rattle.kernel.specs.Tables.{threadOf, heldAt, withScheduler, withHeld}
 use Rattle.kernel.specs.Sound.{Sound}
-use Rattle.kernel.specs.Answers.{Outcome, answerOf, refused}
-use Rattle.kernel.specs.Edits.{recordBy, heldBy, frontb, edited, applied, gathered, endsb, statusOf, carriedOut, guarded}
+use Rattle.kernel.specs.Answers.{answerOf, refused}
+use Rattle.kernel.specs.Edits.{recordBy, heldBy, frontb, edited, applied, gathered, endsb, carriedOut, guarded}
 use Rattle.kernel.specs.Threads.{priorityEffect}
 use Rattle.kernel.specs.Refusals.{reasonOf}
 use Rattle.kernel.specs.Chains.{chainOf, chained}
 use Rattle.kernel.specs.General.{effectOf, stepOf, step}
 use Rattle.kernel.proofs.Laws.Answers.{second-none}
 use Rattle.kernel.proofs.Laws.Effects.{is-true}
-use Rattle.kernel.proofs.Laws.Refusals.{Same, same-reason}
+use Rattle.kernel.proofs.Laws.Refusals.{not-refused, Same, same-reason}
 use Rattle.claims.specs.Lists.{Made, answer}
 use Rattle.claims.specs.Rolls.{succeedsb}
-use Rattle.claims.specs.Priorities.{PriorityChanged, PriorityClaim}
+use Rattle.claims.specs.Priorities.{PriorityAnswer, PriorityClaim}
 use Rattle.claims.proofs.Laws.Steps.{answer-is}
 
 -- ---- a call that is done
@@ -85,7 +85,7 @@ module _ (k : Kernel) (S : Sound k) (m : Made) (number : m .request .number ≡ 
   unfolding knownCall effectOf chained chainOf
   known-found =
       subst (λ (i : ℕ). Done k q (m .messages) (knownCall i (q .a) (q .b) (q .c) (q .d)) → Found (knownCall i (q .a) (q .b) (q .c) (q .d))) (sym number)
-      (λ d. (by-choice (λ (s : ℕ). s ≡ 0 → priorityRefusal (threadOf k (min (q .a) 32)) (q .b) (q .caller) ≡ 0) (nobodyRunsb (q .caller) (runnerOf k)) Statuses.nobodyRuns (priorityRefusal (threadOf k (min (q .a) 32)) (q .b) (q .caller)) (λ h e. absurd (omega (arith, e))) (λ h e. e) (d .0), d .1))
+      (λ d. (not-refused k (q .caller) _ (d .0), d .1))
 
   found : Found (decoded q)
   unfolding succeedsb answerOf step decoded
@@ -108,21 +108,21 @@ module _ (k : Kernel) (S : Sound k) (m : Made) (number : m .request .number ≡ 
   unfolding step
   answered = answer-is k S m ∙ ap answerOf (found .1)
 
-  changed : PriorityChanged k (min (q .a) 32) (q .b) (answerOf (carriedOut k (priorityEffect k (min (q .a) 32) (q .b))))
+  changed : PriorityAnswer k (min (q .a) 32) (q .b) (answerOf (carriedOut k (priorityEffect k (min (q .a) 32) (q .b))))
   unfolding answerOf
   changed =
       record {
         words = answered-words k (min (q .a) 32) (q .b);
         ended = nobody-ended k (min (q .a) 32) (q .b);
         rest = rest-kept k (min (q .a) 32) (q .b);
-        thread = rw (changes k (min (q .a) 32) (q .b)) (Scheduler.claims .reprioritised (k .scheduler) (record { steady = S .fit .steady; runs = S .runs }) (min (q .a) 32) (q .b) small created low);
+        thread = rw (changes k (min (q .a) 32) (q .b)) (Scheduler.claims .afterPriorityChange (k .scheduler) (record { steady = S .fit .steady; runs = S .runs }) (min (q .a) 32) (q .b) small created low);
         next = refl;
       }
 
-  pub priority-changed : PriorityChanged k (q .a) (q .b) (answer k m)
+  pub priority-changed : PriorityAnswer k (q .a) (q .b) (answer k m)
   priority-changed =
       let e : min (q .a) 32 ≡ q .a = (let l = small in omega (arith, l)) in
-      subst (λ (t : ℕ). PriorityChanged k t (q .b) (answer k m)) e (rw answered changed)
+      subst (λ (t : ℕ). PriorityAnswer k t (q .b) (answer k m)) e (rw answered changed)
 
 pub priorities : PriorityClaim
 priorities = priority-changed

@@ -97,6 +97,10 @@ last-at false s = refl
 last : (given fine : Bool) (s : ℕ) → given ≡ not fine → (if given then s else 0) ≡ Chains.unless fine s
 last given fine s e = ap (λ (g : Bool). if g then s else 0) e ∙ last-at fine s
 
+-- where a call is not refused, its own chain gives no reason
+pub not-refused : (k : Kernel) (caller c : ℕ) → (if nobodyRunsb caller (runnerOf k) then Statuses.nobodyRuns else c) ≡ 0 → c ≡ 0
+not-refused k caller c = by-choice (λ (s : ℕ). s ≡ 0 → c ≡ 0) (nobodyRunsb caller (runnerOf k)) Statuses.nobodyRuns c (λ h e. absurd (omega (arith, e))) (λ h e. e)
+
 -- ---- the calls one by one
 module _ (k : Kernel) (caller a b c d : ℕ) (messages : List ℕ) where
   abbrev request : ℕ → Request

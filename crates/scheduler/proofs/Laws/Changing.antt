@@ -13,10 +13,10 @@ use Rattle.scheduler.specs.declared.thread.Place.{Place}
 use Rattle.scheduler.specs.declared.Scheduler.{Scheduler}
 use Rattle.scheduler.specs.Threads.{readyb, placedb}
 use Rattle.scheduler.specs.Orders.{threadAt, priorityAt, thresholdAt, runner, lineAt, withThread, withOrder, withRunner, moved}
-use Rattle.scheduler.specs.Choice.{bestReady, staysb, overtakesb, withMark, replaced, dispatched, rescheduled}
+use Rattle.scheduler.specs.Choice.{bestReady, staysb, overtakesb, withMark, dispatched, rescheduled}
 use Rattle.scheduler.specs.Changes.{withLevels, withPriority, priorityChanged, preemptionChanged}
 use Rattle.scheduler.specs.Sound.{fitb, Steady, Sound}
-use Rattle.scheduler.specs.Claims.{Reprioritised}
+use Rattle.scheduler.specs.Claims.{AfterPriorityChange}
 use Rattle.scheduler.proofs.Laws.Threads.{fit-unmarked, fit-levels, levels-stands, levels-placed, same-levels-placed, mark-placed, mark-priority, mark-threshold}
 use Rattle.scheduler.proofs.Laws.Orders
 use Rattle.scheduler.proofs.Laws.Choice.{is-replaced, goes-on}
@@ -208,8 +208,8 @@ module _ (s : Scheduler) (S : Sound s) (t p : ℕ) (small : t < 32) (created : t
           let b : priorityAt x (runner x) ≤ priorityAt s u = omega (arith, a, least) in
           (λ e. (let c = ap (priorityAt x) e ∙ chosen-priority t ∙ own-priority in omega (arith, b, c, better)), b)
 
-  pub reprioritised : Reprioritised s t p x
-  reprioritised =
+  pub after-priority-change : AfterPriorityChange s t p x
+  after-priority-change =
       record {
         priority = chosen-priority t ∙ own-priority;
         threshold = chosen-threshold t ∙ own-threshold;

@@ -8,13 +8,13 @@ use borrow.Author.Tests.{ltb-true, ltb-false, lt-ltb, le-ltb, le-leb, eq-eqb, ne
 use Rattle.lines.specs.Logic.{if_then_else_, oneIf, implies}
 use Rattle.lines.specs.Lists.{count, firstWith}
 use Rattle.lines.specs.Lines.{members}
-use Rattle.lines.proofs.Laws.Logic.{by-test, by-choice, never, and-in, or-left, or-right, implies-in}
+use Rattle.lines.proofs.Laws.Logic.{by-test, never, and-in, or-left, or-right, implies-in}
 use Rattle.lines.proofs.Laws.Lists
 use Rattle.scheduler.specs.declared.thread.Thread.{Thread}
 use Rattle.scheduler.specs.declared.thread.Place.{Place}
 use Rattle.scheduler.specs.declared.Scheduler.{Scheduler}
 use Rattle.scheduler.specs.Threads.{uncreated, readyb, sleepsb, waitsb, pausedb, placedb, inState, atRest, awake, withSuspension, created}
-use Rattle.scheduler.specs.Orders.{threadAt, lineAt, firstAt, withThread, withOrder, moved}
+use Rattle.scheduler.specs.Orders.{threadAt, lineAt, firstAt, withOrder, moved}
 use Rattle.scheduler.specs.Sound.{limitsb, markFitb, suspensionFitb, ticksFitb, objectFitb, zerob, fitb, Steady}
 use Rattle.scheduler.proofs.Laws.Threads.{none-at, placed-stands, fit-parts, fit-from, fit-low, fit-threshold}
 use Rattle.scheduler.proofs.Laws.Orders
