@@ -1,7 +1,7 @@
 -- A block pool's record: its sizes, its free blocks, and where a block lies.
-use Rattle.std.specs.Prelude.{◌≡◌, List, ◌∷◌, Bool, true, false, ◌&&◌, ℕ, ◌+◌, ◌*◌, ◌/◌, ◌%◌, ◌<◌, length, take, drop, get_or, replicate, eqb, ltb, leb}
+use Rattle.std.specs.Prelude.{if◌then◌else◌, ◌≡◌, List, ◌∷◌, Bool, true, false, ◌&&◌, ℕ, ◌+◌, ◌*◌, ◌/◌, ◌%◌, ◌<◌, length, take, drop, get_or, replicate, eqb, ltb, leb}
 use Rattle.numbers.specs.Numbers.{slots}
-use Rattle.lines.specs.Logic.{if◌then◌else◌, all_below}
+use Rattle.lines.specs.Logic.{all_below}
 use Rattle.lines.specs.Lists.{count, below, numbers_from}
 use Rattle.lines.specs.Lines.{pad}
 use Rattle.lines.specs.Slots.{zero_from}

@@ -1,7 +1,6 @@
 -- The block view: which bytes of a lent pool area are a block's, and what the area is after a write into them.
-use Rattle.std.specs.Prelude.{◌≡◌, List, [], Bool, true, ◌&&◌, ◌⊎◌, ℕ, ◌+◌, ◌≤◌, ◌<◌, min, length, take, drop, get_or, leb}
+use Rattle.std.specs.Prelude.{if◌then◌else◌, ◌≡◌, List, [], Bool, true, ◌&&◌, ◌⊎◌, ℕ, ◌+◌, ◌≤◌, ◌<◌, min, length, take, drop, get_or, leb}
 use Rattle.std.proofs.Math.Seq.{paste}
-use Rattle.lines.specs.Logic.{if◌then◌else◌}
 use Rattle.lines.specs.Lists.{numbers_from}
 use Rattle.blocks.specs.declared.pool.Pool.{Pool}
 use Rattle.blocks.specs.declared.view.Extent.{Extent}

@@ -14,7 +14,7 @@ const ROOM: u8 = SLOTS as u8;
 const MOST: u32 = SLOTS as u32;
 
 // The first `free` slots of `list` are the free blocks, in the order in which they are given; the slots behind them are zero.
-#[derive(Drop)]
+#[derive(Clone, Copy)]
 pub struct Pool {
     pub created: bool,
     pub block: u16,

@@ -6,7 +6,7 @@ ghost use Rattle.blocks.specs.Views.{viewedb, extent_of, viewed, onwards, writte
 use super::pool::Pool;
 
 // A run of bytes of an area: its first byte, and how many they are.
-#[derive(Drop)]
+#[derive(Clone, Copy)]
 pub struct Extent {
     pub start: usize,
     pub length: usize,

@@ -1,6 +1,5 @@
 -- Who calls, and whom each call allows (rules 2.1, 3.8).
-use Rattle.std.specs.Prelude.{List, [], ◌∷◌, Bool, true, false, ◌||◌, ℕ, eqb}
-use Rattle.lines.specs.Logic.{if◌then◌else◌}
+use Rattle.std.specs.Prelude.{if◌then◌else◌, List, [], ◌∷◌, Bool, true, false, ◌||◌, ℕ, eqb}
 use Rattle.calls.specs.Services.{
   thread_create,
   thread_delete,

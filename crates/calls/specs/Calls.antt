@@ -1,6 +1,5 @@
 -- The calls: numbers, callers and arguments (rule 2.1).
-use Rattle.std.specs.Prelude.{ℕ, min, eqb, ltb}
-use Rattle.lines.specs.Logic.{if◌then◌else◌}
+use Rattle.std.specs.Prelude.{if◌then◌else◌, ℕ, min, eqb, ltb}
 use Rattle.numbers.specs.Numbers.{slots, thread_number, semaphore_number, queue_number, group_number, pool_number}
 use Rattle.calls.specs.declared.call.Call.TheVariants.{
   ThreadCreate,

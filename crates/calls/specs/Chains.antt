@@ -1,8 +1,7 @@
 -- What the functions of refusal.rt return: for each call its own part of the table of refusals as a chain, 0 where no reason holds. Nothing
 -- here needs to be believed: that each chain is what the table says is proved, in the kernel's laws.
-use Rattle.std.specs.Prelude.{Bool, ◌&&◌, ◌||◌, not, ℕ, ◌+◌, eqb, ltb, leb}
+use Rattle.std.specs.Prelude.{if◌then◌else◌, Bool, ◌&&◌, ◌||◌, not, ℕ, ◌+◌, eqb, ltb, leb}
 use Rattle.numbers.specs.Numbers.{nobody, priorities, semaphores, queues, groups, pools}
-use Rattle.lines.specs.Logic.{if◌then◌else◌}
 use Rattle.scheduler.specs.declared.thread.Thread.{Thread}
 use Rattle.scheduler.specs.Threads.{suspended, pausedb, finishedb}
 use Rattle.objects.specs.declared.semaphore.Semaphore.{Semaphore}

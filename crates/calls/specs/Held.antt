@@ -1,7 +1,6 @@
 -- What a thread holds: the status and words that its last wait left it, and what it waits for.
-use Rattle.std.specs.Prelude.{List, ◌∷◌, Bool, true, false, ℕ, ◌-◌, replicate}
+use Rattle.std.specs.Prelude.{if◌then◌else◌, List, ◌∷◌, Bool, true, false, ℕ, ◌-◌, replicate}
 use Rattle.numbers.specs.Numbers.{message_words}
-use Rattle.lines.specs.Logic.{if◌then◌else◌}
 use Rattle.calls.specs.declared.held.Held.{Held}
 use Rattle.calls.specs.Statuses as Statuses
 

@@ -15,7 +15,7 @@ pub const INTERRUPT: u32 = 1;
 pub const THREAD: u32 = 2;
 
 // What a caller asks: the number of a call, the caller's kind and four arguments.
-#[derive(Drop)]
+#[derive(Clone, Copy)]
 pub struct Request {
     pub number: u32,
     pub caller: u32,
@@ -26,7 +26,7 @@ pub struct Request {
 }
 
 // A known call with its arguments, by ThreadX's service names.
-#[derive(Drop)]
+#[derive(Clone, Copy)]
 pub enum Call {
     ThreadCreate(ThreadId, u32, u32, u32),
     ThreadDelete(ThreadId),
@@ -70,7 +70,7 @@ pub enum Call {
 }
 
 // A request is either a known call or a refusal.
-#[derive(Drop)]
+#[derive(Clone, Copy)]
 pub enum Decoded {
     Known(Call),
     Unknown,

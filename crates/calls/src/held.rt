@@ -8,7 +8,7 @@ use numbers::MESSAGE_WORDS;
 // `words` are those that the last wait left or, of a waiting sender, its message: no thread has both. `sending` and `front` are a waiting
 // sender's, `request` and `option` those of a thread that waits for flags. The bytes stand behind the words, so that a record is copied by
 // words throughout.
-#[derive(Drop)]
+#[derive(Clone, Copy)]
 pub struct Held {
     pub status: u32,
     pub request: u32,

@@ -1,8 +1,8 @@
 -- Lists of thread numbers: joining, taking out, the part for which a test holds, the first and the best.
-use Rattle.std.specs.Prelude.{◌≡◌, List, [], ◌∷◌, ◌++◌, Bool, true, ◌&&◌, not, ℕ, zero, suc, ◌+◌, get_or, eqb, ltb, leb}
+use Rattle.std.specs.Prelude.{if◌then◌else◌, ◌≡◌, List, [], ◌∷◌, ◌++◌, Bool, true, ◌&&◌, not, ℕ, zero, suc, ◌+◌, get_or, eqb, ltb, leb}
 use Rattle.std.specs.Int.Bits.{bit_or}
 use Rattle.numbers.specs.Numbers.{nobody}
-use Rattle.lines.specs.Logic.{if◌then◌else◌, one_if}
+use Rattle.lines.specs.Logic.{one_if}
 
 -- n numbers in order, the first of them i
 unfoldable pub numbers_from : ℕ → ℕ → List ℕ

@@ -1,11 +1,5 @@
 -- Choices by a test, and tests of a range.
-use Rattle.std.specs.Prelude.{Bool, true, false, ◌&&◌, ◌||◌, not, ℕ, zero, suc}
-
-infixr 20 if◌then◌else◌
--- a where the test holds, else b
-abbrev pub if◌then◌else◌ : {A : Type 0} → Bool → A → A → A
-if◌then◌else◌ true a b = a
-if◌then◌else◌ false a b = b
+use Rattle.std.specs.Prelude.{if◌then◌else◌, Bool, true, false, ◌&&◌, ◌||◌, not, ℕ, zero, suc}
 
 -- 1 where the test holds, else 0
 unfoldable pub one_if : Bool → ℕ

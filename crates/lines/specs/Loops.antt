@@ -1,8 +1,7 @@
 -- Steps of loops only. Contracts of helper functions cite them, no rule and no claim does: a reader need not believe them, since the laws
 -- say what they come to.
-use Rattle.std.specs.Prelude.{List, [], ◌∷◌, ℕ, ◌+◌, get_or, set, replicate, ltb}
+use Rattle.std.specs.Prelude.{if◌then◌else◌, List, [], ◌∷◌, ℕ, ◌+◌, get_or, set, replicate, ltb}
 use Rattle.numbers.specs.Numbers.{threads, nobody}
-use Rattle.lines.specs.Logic.{if◌then◌else◌}
 use Rattle.lines.specs.declared.Best.{Best}
 
 -- ---- how often each number stands in a list

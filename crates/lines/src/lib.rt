@@ -1,6 +1,8 @@
 // Ordered lines of thread numbers.
-ghost use Rattle.std.specs.Prelude.{◌≡◌, [], ◌++◌, length};
-ghost use Rattle.lines.specs.Logic.{if◌then◌else◌};
+
+#![tactic(auto)]
+
+ghost use Rattle.std.specs.Prelude.{if◌then◌else◌, ◌≡◌, [], ◌++◌, length};
 ghost use Rattle.lines.specs.Lists.{without, only_if, to_end, to_front, count, first, fronted};
 ghost use Rattle.lines.specs.Lines.{members, line_of, cleanb};
 ghost use Rattle.lines.specs.Loops.{slot_of, tally, better_of};
@@ -11,14 +13,14 @@ use numbers::{NOBODY, THREADS, ThreadId};
 const CAPACITY: u8 = THREADS as u8;
 
 // An ordered line of thread numbers: the first `len` slots, in order. The slots behind them are zero.
-#[derive(Drop)]
+#[derive(Clone, Copy)]
 pub struct Line {
     pub ids: [u8; THREADS],
     pub len: u8,
 }
 
 // A thread and the key by which it is compared: the smaller is the better.
-#[derive(Drop)]
+#[derive(Clone, Copy)]
 pub struct Best {
     pub id: ThreadId,
     pub key: u8,

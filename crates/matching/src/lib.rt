@@ -1,4 +1,7 @@
 // Which waiters of an event flags group a set wakes, and which flags they clear.
+
+#![tactic(auto)]
+
 ghost use Rattle.std.specs.Prelude.{◌≡◌};
 ghost use Rattle.lines.specs.Lines.{members, line_of};
 ghost use Rattle.matching.specs.Loops.{woken_of, clears_of};
@@ -8,7 +11,7 @@ use numbers::{THREADS, ThreadId};
 use objects::group::{cleared_by, is_met};
 
 // The woken waiters in line order, and the flags that are taken off afterwards.
-#[derive(Drop)]
+#[derive(Clone, Copy)]
 pub struct Matched {
     pub line: Line,
     pub clears: u32,
@@ -16,8 +19,8 @@ pub struct Matched {
 
 // Tests every waiter of the line, in order, against the same flags. A thread's request and option stand under its number.
 pub fn woken(line: Line, flags: u32, requests: [u32; THREADS], options: [u8; THREADS]) -> Matched
-    ensures fact_1 { result.line ≡ line_of (woken_of flags requests options (members line)) }
-    ensures fact_2 { result.clears ≡ clears_of flags requests options (members line) }
+    ensures line { result.line ≡ line_of (woken_of flags requests options (members line)) }
+    ensures clears { result.clears ≡ clears_of flags requests options (members line) }
 {
     let ids = line.ids;
     let n = line.size() as usize;

@@ -1,4 +1,7 @@
 // How many of each thing there are, and the types of their numbers.
+
+#![tactic(auto)]
+
 ghost use Rattle.std.specs.Prelude.{◌≡◌, min};
 ghost use Rattle.numbers.specs.Numbers.{threads, semaphores, queues, groups, pools};
 
@@ -35,23 +38,23 @@ pub const NO_POOL: u8 = POOLS as u8;
 pub const NO_BLOCK: u8 = SLOTS as u8;
 
 // The number of a thread, 0 to 31. 32 stands for nobody.
-#[derive(Drop)]
+#[derive(Clone, Copy)]
 pub struct ThreadId(pub u8);
 
 // The number of a semaphore, 0 to 15. 16 stands for none.
-#[derive(Drop)]
+#[derive(Clone, Copy)]
 pub struct SemaphoreId(pub u8);
 
 // The number of a queue, 0 to 7. 8 stands for none.
-#[derive(Drop)]
+#[derive(Clone, Copy)]
 pub struct QueueId(pub u8);
 
 // The number of a group, 0 to 7. 8 stands for none.
-#[derive(Drop)]
+#[derive(Clone, Copy)]
 pub struct GroupId(pub u8);
 
 // The number of a pool, 0 to 3. 4 stands for none.
-#[derive(Drop)]
+#[derive(Clone, Copy)]
 pub struct PoolId(pub u8);
 
 // A thread's number; every number past the last stands for nobody.

@@ -1,7 +1,6 @@
 -- An event flags group's record, and the flags that a request asks for.
-use Rattle.std.specs.Prelude.{Bool, true, false, ◌&&◌, ◌||◌, not, ℕ, eqb, ltb}
+use Rattle.std.specs.Prelude.{if◌then◌else◌, Bool, true, false, ◌&&◌, ◌||◌, not, ℕ, eqb, ltb}
 use Rattle.std.specs.Int.Bits.{bit_and, bit_xor}
-use Rattle.lines.specs.Logic.{if◌then◌else◌}
 use Rattle.objects.specs.declared.group.Group.{Group}
 
 -- rule 12.7: the record of a group that is not created is zero

@@ -1,7 +1,6 @@
 -- A queue's record: its sizes, its store, and how messages enter and leave it.
-use Rattle.std.specs.Prelude.{List, [], ◌++◌, Bool, true, false, ◌&&◌, ℕ, ◌+◌, ◌-◌, ◌*◌, ◌/◌, take, drop, replicate, eqb, ltb, leb}
+use Rattle.std.specs.Prelude.{if◌then◌else◌, List, [], ◌++◌, Bool, true, false, ◌&&◌, ℕ, ◌+◌, ◌-◌, ◌*◌, ◌/◌, take, drop, replicate, eqb, ltb, leb}
 use Rattle.numbers.specs.Numbers.{message_words, slots}
-use Rattle.lines.specs.Logic.{if◌then◌else◌}
 use Rattle.lines.specs.Lines.{pad}
 use Rattle.lines.specs.Slots.{zero_from}
 use Rattle.objects.specs.declared.queue.Queue.{Queue}

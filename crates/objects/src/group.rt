@@ -8,7 +8,7 @@ pub const AND: u8 = 2;
 // Every flag.
 pub const ALL_FLAGS: u32 = 0xFFFFFFFF;
 
-#[derive(Drop)]
+#[derive(Clone, Copy)]
 pub struct Group {
     pub created: bool,
     pub flags: u32,

@@ -1,4 +1,7 @@
 // The records of semaphores, queues and event flags groups. None of them knows a thread.
+
+#![tactic(auto)]
+
 pub mod group;
 pub mod queue;
 pub mod semaphore;

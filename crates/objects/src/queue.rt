@@ -13,7 +13,7 @@ const LONGEST: u32 = MESSAGE_WORDS as u32;
 const LARGEST: u32 = SLOTS as u32;
 
 // `stored` counts messages; the words of the store behind them are zero.
-#[derive(Drop)]
+#[derive(Clone, Copy)]
 pub struct Queue {
     pub created: bool,
     pub words: u8,

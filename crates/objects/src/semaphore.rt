@@ -5,7 +5,7 @@ ghost use Rattle.objects.specs.Semaphores.{no_semaphore, semaphore_fitb};
 // The largest count, at which a put is refused.
 pub const LARGEST_COUNT: u32 = 0xFFFFFFFF;
 
-#[derive(Drop)]
+#[derive(Clone, Copy)]
 pub struct Semaphore {
     pub created: bool,
     pub count: u32,

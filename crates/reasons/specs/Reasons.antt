@@ -1,11 +1,10 @@
 -- Why waits end, and the counts of the waits that have ended for each reason.
-use Rattle.std.specs.Prelude.{List, [], ◌∷◌, Bool, ℕ, ◌+◌, eqb}
-use Rattle.lines.specs.Logic.{if◌then◌else◌}
+use Rattle.std.specs.Prelude.{if◌then◌else◌, List, [], ◌∷◌, Bool, ℕ, ◌+◌, eqb}
 use Rattle.reasons.specs.declared.Reason.{Reason}
 use Rattle.reasons.specs.declared.Reason.TheVariants.{Served, TimedOut, Aborted, Deleted}
 use Rattle.reasons.specs.declared.Counts.{Counts}
 
--- rule 2.8: the order of the reasons, in a result and in print
+-- the order of the reasons, in a result and in print
 abbrev pub number_of : Reason → ℕ
 number_of Served = 0
 number_of TimedOut = 1
@@ -16,29 +15,29 @@ number_of Deleted = 3
 abbrev pub same_reasonb : Reason → Reason → Bool
 same_reasonb r q = eqb (number_of r) (number_of q)
 
--- rule 2.8: the count of each reason
+-- the count of each reason
 abbrev pub count_for : Reason → Counts → ℕ
 count_for Served c = c.served
 count_for TimedOut c = c.timeouts
 count_for Aborted c = c.aborted
 count_for Deleted c = c.deleted
 
--- rules 11.5, 11.6: the four counts, in their order
+-- the four counts, in their order
 abbrev pub count_list : Counts → List ℕ
 count_list c = c.served ∷ c.timeouts ∷ c.aborted ∷ c.deleted ∷ []
 
--- rule 2.8: the waits that have ended, for whatever reason
+-- the waits that have ended, for whatever reason
 abbrev pub total_of : Counts → ℕ
 total_of c = c.served + c.timeouts + c.aborted + c.deleted
 
--- rule 2.8: the counts, where so many waits have ended for each reason
+-- the counts, where so many waits have ended for each reason
 abbrev pub counts_by : (Reason → ℕ) → Counts
 counts_by f = record { served = f Served; timeouts = f TimedOut; aborted = f Aborted; deleted = f Deleted }
 
--- rules 2.4, 2.8: no wait has ended
+-- no wait has ended
 abbrev pub no_waits : Counts
 no_waits = counts_by (λ r. 0)
 
--- rule 2.8: n waits have ended, all for one reason
+-- n waits have ended, all for one reason
 abbrev pub counts_of : Reason → ℕ → Counts
 counts_of r n = counts_by (λ q. if same_reasonb r q then n else 0)

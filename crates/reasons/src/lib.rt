@@ -1,9 +1,12 @@
 // Why waits end, and how many have ended for each reason.
+
+#![tactic(auto)]
+
 ghost use Rattle.std.specs.Prelude.{◌≡◌};
 ghost use Rattle.reasons.specs.Reasons.{counts_of};
 
 // Why a wait has ended: its object served it, its last tick has passed, it was aborted, its object was deleted.
-#[derive(Drop)]
+#[derive(Clone, Copy)]
 pub enum Reason {
     Served,
     TimedOut,
@@ -13,7 +16,7 @@ pub enum Reason {
 
 // How many waits a call has ended for each reason.
 #[repr(C)]
-#[derive(Drop)]
+#[derive(Clone, Copy)]
 pub struct Counts {
     pub served: u32,
     pub timeouts: u32,

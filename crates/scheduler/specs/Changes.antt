@@ -1,6 +1,5 @@
 -- Priority change and preemption change (rules 6.6, 6.7). The choice that follows is not part of them.
-use Rattle.std.specs.Prelude.{◌&&◌, ℕ, ltb}
-use Rattle.lines.specs.Logic.{if◌then◌else◌}
+use Rattle.std.specs.Prelude.{if◌then◌else◌, ◌&&◌, ℕ, ltb}
 use Rattle.scheduler.specs.declared.thread.Thread.{Thread}
 use Rattle.scheduler.specs.declared.Scheduler.{Scheduler}
 use Rattle.scheduler.specs.Threads.{readyb}

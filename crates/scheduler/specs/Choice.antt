@@ -1,7 +1,6 @@
 -- Who runs next: the choice that is made once after each call that is carried out (rules 4.2 to 4.7).
-use Rattle.std.specs.Prelude.{Bool, false, true, ◌&&◌, ◌||◌, not, ℕ, ltb}
+use Rattle.std.specs.Prelude.{if◌then◌else◌, Bool, false, true, ◌&&◌, ◌||◌, not, ℕ, ltb}
 use Rattle.numbers.specs.Numbers.{nobody}
-use Rattle.lines.specs.Logic.{if◌then◌else◌}
 use Rattle.lines.specs.Lists.{filter, best_of}
 use Rattle.lines.specs.Lines.{members}
 use Rattle.scheduler.specs.declared.thread.Thread.{Thread}

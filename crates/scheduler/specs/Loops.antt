@@ -1,7 +1,6 @@
 -- Steps of loops only. Contracts of helper functions cite them, no rule and no claim does: a reader need not believe them, since the laws
 -- say what they come to.
-use Rattle.std.specs.Prelude.{Bool, ℕ}
-use Rattle.lines.specs.Logic.{if◌then◌else◌}
+use Rattle.std.specs.Prelude.{if◌then◌else◌, Bool, ℕ}
 use Rattle.lines.specs.Loops.{better_of}
 use Rattle.lines.specs.declared.Best.{Best}
 use Rattle.scheduler.specs.declared.thread.Thread.{Thread}

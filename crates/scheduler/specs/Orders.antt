@@ -1,6 +1,5 @@
 -- The threads, the one line of all that stand, the orders of the places in it, and the moves.
-use Rattle.std.specs.Prelude.{List, [], ◌++◌, Bool, ℕ, get_or, set, replicate}
-use Rattle.lines.specs.Logic.{if◌then◌else◌}
+use Rattle.std.specs.Prelude.{if◌then◌else◌, List, [], ◌++◌, Bool, ℕ, get_or, set, replicate}
 use Rattle.numbers.specs.Numbers.{threads, nobody}
 use Rattle.lines.specs.Lists.{filter, without, only_if, first, best_of, fronted}
 use Rattle.lines.specs.Lines.{members, line_of}

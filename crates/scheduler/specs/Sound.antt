@@ -1,6 +1,6 @@
 -- Sound threads and orders: the scheduler's part of sound tables (rules 12.1 to 12.4, 12.7).
-use Rattle.std.specs.Prelude.{◌≡◌, Bool, true, false, ◌&&◌, ◌||◌, not, ℕ, ◌<◌, ◌≤◌, length, eqb, ltb, leb}
-use Rattle.lines.specs.Logic.{if◌then◌else◌, one_if, all_below, implies}
+use Rattle.std.specs.Prelude.{if◌then◌else◌, ◌≡◌, Bool, true, false, ◌&&◌, ◌||◌, not, ℕ, ◌<◌, ◌≤◌, length, eqb, ltb, leb}
+use Rattle.lines.specs.Logic.{one_if, all_below, implies}
 use Rattle.numbers.specs.Numbers.{threads, nobody, priorities}
 use Rattle.lines.specs.Lists.{count, below}
 use Rattle.lines.specs.Lines.{members, cleanb}

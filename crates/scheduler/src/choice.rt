@@ -12,8 +12,8 @@ use numbers::{NOBODY, THREADS, ThreadId};
 // Of thread `x` and the best of those behind it the better; a thread that is not wanted does not count. A priority is
 // a byte, so nobody's key is never the smaller.
 fn considered(among: Among, x: ThreadId, th: Thread, b: Best) -> Best
-    ensures fact_1 { result ≡ considered_of among x.0 th b }
-    ensures fact_2 { th.priority ≤ 255 }
+    ensures best { result ≡ considered_of among x.0 th b }
+    ensures in_byte { th.priority ≤ 255 }
 {
     if th.is_wanted(among) {
         better(x, th.priority, b)

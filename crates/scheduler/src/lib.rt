@@ -2,6 +2,9 @@
 //
 // One line holds every thread that is ready or waits on an object, by the time of its joining. The order of a place
 // (the ready threads of a priority, the waiters of an object) is the part of that line whose threads are there.
+
+#![tactic(auto)]
+
 ghost use Rattle.std.specs.Prelude.{◌≡◌};
 ghost use Rattle.lines.specs.Lines.{members, line_of};
 ghost use Rattle.scheduler.specs.Orders.{thread_at, line_at, first_at, with_thread, idle};
@@ -16,7 +19,7 @@ pub mod moves;
 pub mod sound;
 pub mod thread;
 
-#[derive(Drop)]
+#[derive(Clone, Copy)]
 pub struct Scheduler {
     pub running: ThreadId,
     pub order: Line,

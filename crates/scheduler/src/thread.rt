@@ -27,7 +27,7 @@ pub const ON_BLOCK: u8 = 8;
 
 // A thread's record. `suspending` says that a suspension is held until the wait ends; `ticks` are those left of a
 // wait or sleep, the largest number for one without end.
-#[derive(Drop)]
+#[derive(Clone, Copy)]
 pub struct Thread {
     pub created: bool,
     pub state: u8,
@@ -40,14 +40,14 @@ pub struct Thread {
 }
 
 // Where threads stand: a state, and the priority of the ready threads or the object of the waiters.
-#[derive(Drop)]
+#[derive(Clone, Copy)]
 pub struct Place {
     state: u8,
     number: u8,
 }
 
 // Those among whom the best is looked for: the ready threads, the marked ones, those at a place.
-#[derive(Drop)]
+#[derive(Clone, Copy)]
 pub enum Among {
     Ready,
     Marked,

@@ -1,22 +1,20 @@
 -- Replies to the records of a tape, as words (rules 11.4, 11.5).
-use Rattle.std.specs.Prelude.{List, [], ◌∷◌, ◌++◌, ℕ, zero, suc, ◌+◌, ◌*◌, length, leb}
+use Rattle.std.specs.Prelude.{if◌then◌else◌, List, [], ◌∷◌, ◌++◌, ℕ, zero, suc, ◌+◌, ◌*◌, length, leb}
 use Rattle.std.proofs.Math.Seq.{paste}
-use Rattle.lines.specs.Logic.{if◌then◌else◌}
 use Rattle.calls.specs.Held.{no_words}
-use Rattle.reasons.specs.Reasons.{no_waits, count_list}
 use Rattle.tape.specs.declared.replies.Reply.{Reply}
 
--- rule 11.5: a reply has twenty-two words
+-- rule 11.5: a reply has nineteen words
 abbrev pub reply_size : ℕ
-reply_size = 22
+reply_size = 19
 
 -- rule 2.4: the reply to a refused call, with the thread that runs next: no words, no ended waits
 unfoldable pub refusal : ℕ → ℕ → Reply
-refusal status next = record { status = status; words = no_words; next = next; ended = no_waits }
+refusal status next = record { status = status; words = no_words; next = next; ended = 0 }
 
--- rule 11.5: status, sixteen words, next thread and ended waits by reason, in this order
+-- rule 11.5: status, sixteen words, next thread and ended waits, in this order
 unfoldable pub reply_words : Reply → List ℕ
-reply_words r = r.status ∷ (r.words ++ (r.next ∷ count_list r.ended))
+reply_words r = r.status ∷ (r.words ++ (r.next ∷ r.ended ∷ []))
 
 -- rule 11.5: the lent words after the reply to record i is written to its place, where there is room for all of it
 unfoldable pub replied : List ℕ → ℕ → Reply → List ℕ

@@ -1,6 +1,5 @@
 -- The call tape: its words, when it is refused, its records and its message words (rules 11.1, 11.2).
-use Rattle.std.specs.Prelude.{List, map, Bool, ◌||◌, not, ℕ, ◌+◌, ◌*◌, length, get_or, eqb, ltb}
-use Rattle.lines.specs.Logic.{if◌then◌else◌}
+use Rattle.std.specs.Prelude.{if◌then◌else◌, List, map, Bool, ◌||◌, not, ℕ, ◌+◌, ◌*◌, length, get_or, eqb, ltb}
 use Rattle.lines.specs.Lists.{numbers_from}
 use Rattle.words.specs.Words.{word_size, word}
 use Rattle.calls.specs.declared.call.Request.{Request}

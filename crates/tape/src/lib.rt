@@ -1,4 +1,7 @@
 // The call tape: a header of four words, records of calls, message words. All words are little-endian.
+
+#![tactic(auto)]
+
 ghost use Rattle.std.specs.Prelude.{◌≡◌, min, length, get_or};
 ghost use Rattle.lines.specs.Lines.{pad};
 ghost use Rattle.tape.specs.Tapes.{record_bytes, word_at, records_end, refusedb, count_of, message_count_of, record_from, record_at, most_message_words, messages_of};

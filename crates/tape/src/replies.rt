@@ -3,19 +3,18 @@ ghost use Rattle.std.specs.Prelude.{◌≡◌};
 ghost use Rattle.tape.specs.Replies.{refusal, reply_words, replied, replied_each};
 
 use numbers::{MESSAGE_WORDS, ThreadId};
-use reasons::{Counts, NO_WAITS};
 
-// The words of a reply: status, sixteen words, next thread, and the waits that ended served, timed out, aborted, deleted.
-pub const REPLY_WORDS: usize = 22;
+// The words of a reply: status, sixteen words, next thread, ended waits.
+pub const REPLY_WORDS: usize = 19;
 
-// A call's result without the tables: status, sixteen words, the next thread (32 for none) and how many waits the call ended, by reason.
+// A call's result without the tables: status, sixteen words, the next thread (32 for none) and how many waits the call ended.
 #[repr(C)]
-#[derive(Drop)]
+#[derive(Clone, Copy)]
 pub struct Reply {
     pub status: u32,
     pub words: [u32; MESSAGE_WORDS],
     pub next: u32,
-    pub ended: Counts,
+    pub ended: u32,
 }
 
 // The reply to a refused call, with the thread that runs next.
@@ -26,19 +25,18 @@ pub fn refusal(status: u32, next: ThreadId) -> Reply
         status,
         words: [0; MESSAGE_WORDS],
         next: next.0 as u32,
-        ended: NO_WAITS,
+        ended: 0,
     }
 }
 
-// A reply as twenty-two words.
-fn reply_words(r: Reply) -> [u32; 22]
+// A reply as nineteen words.
+fn reply_words(r: Reply) -> [u32; 19]
     ensures { result ≡ reply_words r }
 {
     let w = r.words;
-    let n = r.ended;
     [
         r.status, w[0], w[1], w[2], w[3], w[4], w[5], w[6], w[7], w[8], w[9], w[10], w[11], w[12],
-        w[13], w[14], w[15], r.next, n.served, n.timeouts, n.aborted, n.deleted,
+        w[13], w[14], w[15], r.next, r.ended,
     ]
 }
 

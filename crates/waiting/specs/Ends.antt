@@ -17,7 +17,7 @@ reason_by Delete = Deleted
 reason_by (Tick status) = TimedOut
 reason_by Abort = Aborted
 
--- rules 5.4, 5.5: the status that the thread then holds; that of a time_out goes by what was waited for
+-- rules 5.4, 5.5: the status that the thread then holds; that of a time-out goes by what was waited for
 abbrev pub status_left : By → ℕ
 status_left Give = Statuses.success
 status_left Take = Statuses.success

@@ -1,8 +1,8 @@
 -- What a thread holds while it waits, what it waits for, and the records of the objects: the parts of sound tables that speak of one
 -- record, or of one record and what it waits for (rules 12.4 to 12.7).
-use Rattle.std.specs.Prelude.{ℕ, Bool, not, ◌&&◌, ◌||◌, List, ◌==◌, nat_le, nat_lt, slice_index, slice_index_or}
+use Rattle.std.specs.Prelude.{if◌then◌else◌, ℕ, Bool, not, ◌&&◌, ◌||◌, List, ◌==◌, nat_le, nat_lt, slice_index, slice_index_or}
 use Rattle.numbers.specs.Numbers.{message_words, semaphores, queues, groups, pools}
-use Rattle.lines.specs.Logic.{if◌then◌else◌, implies, all_below}
+use Rattle.lines.specs.Logic.{implies, all_below}
 use Rattle.scheduler.specs.declared.thread.Thread.{Thread}
 use Rattle.scheduler.specs.Threads.{on_queue, on_flags, pausedb}
 use Rattle.objects.specs.declared.semaphore.Semaphore.{Semaphore}

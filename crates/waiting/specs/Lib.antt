@@ -1,3 +1,3 @@
-pub mod Ends
 pub mod Fit
 pub mod Ticks
+pub mod Ends

@@ -1,6 +1,5 @@
 -- The clock's next time, and the ticks that are left of one thread's wait or sleep.
-use Rattle.std.specs.Prelude.{ℕ, ◌+◌, ◌-◌, ◌%◌, Bool, not, ◌&&◌, ◌==◌}
-use Rattle.lines.specs.Logic.{if◌then◌else◌}
+use Rattle.std.specs.Prelude.{if◌then◌else◌, ℕ, ◌+◌, ◌-◌, ◌%◌, Bool, not, ◌&&◌, ◌==◌}
 use Rattle.scheduler.specs.declared.thread.Thread.{Thread}
 use Rattle.scheduler.specs.Threads.{asleep, on_queue, on_semaphore, on_flags, pausedb}
 use Rattle.calls.specs.declared.held.Held.{Held}

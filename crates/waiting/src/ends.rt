@@ -9,7 +9,7 @@ use reasons::Reason;
 
 // What ends a wait: something is given to its object; a sender's message is taken; its object is emptied, or deleted; its last tick passes,
 // with the status that this leaves; it is aborted.
-#[derive(Drop)]
+#[derive(Clone, Copy)]
 pub enum By {
     Give,
     Take,
@@ -20,7 +20,7 @@ pub enum By {
 }
 
 // A wait that has ended.
-#[derive(Drop)]
+#[derive(Clone, Copy)]
 pub struct End {
     pub held: Held,
     pub reason: Reason,

@@ -1,4 +1,7 @@
 // Little-endian numbers: the word that four bytes spell and the half that two do, and the bytes of each, the least one first.
+
+#![tactic(auto)]
+
 ghost use Rattle.std.specs.Prelude.{◌≡◌};
 ghost use Rattle.words.specs.Words.{word, word_bytes, half, half_bytes};
 

@@ -6,7 +6,7 @@ use Prim.Native.Nat.{ℕ, ◌≤◌, min}
 use native.Mathlib.Omega.{arith}
 use lib.Dec.{eqb, ltb}
 use borrow.Author.Tests.{le-ltb, ne_eqb, eqb-true, lt-ltb, ltb-true, ltb-false}
-use Rattle.lines.specs.Logic.{if◌then◌else◌}
+use Rattle.std.specs.Prelude.{if◌then◌else◌}
 use Rattle.lines.proofs.Laws.Logic.{by_test, by_choice, never, or-rest}
 use Rattle.objects.specs.Groups.{or_optionb, metb}
 use Rattle.calls.specs.declared.call.Request.{Request}

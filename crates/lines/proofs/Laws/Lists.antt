@@ -8,7 +8,8 @@ use native.Mathlib.Omega.{arith}
 use lib.ListN.{length, take, get_or}
 use lib.Dec.{eqb, ltb}
 use borrow.Author.Tests.{eq-eqb, ne_eqb, eqb-false, ltb-true, ltb-false}
-use Rattle.lines.specs.Logic.{if◌then◌else◌, one_if}
+use Rattle.std.specs.Prelude.{if◌then◌else◌}
+use Rattle.lines.specs.Logic.{one_if}
 use Rattle.lines.specs.Lists.{numbers_from, filter, without, only_if, count, below, first, first_with, Begins}
 use Rattle.lines.proofs.Laws.Logic.{by_test, by_eq, never, and_left, and_right, and_in, one_at_most}
 

@@ -7,7 +7,8 @@ use native.Mathlib.Omega.{arith}
 use native.Mathlib.Numerals.{add-one}
 use lib.Dec.{eqb}
 use borrow.Author.Tests.{eqb-true, eqb-false}
-use Rattle.lines.specs.Logic.{if◌then◌else◌, one_if, implies, all_below}
+use Rattle.std.specs.Prelude.{if◌then◌else◌}
+use Rattle.lines.specs.Logic.{one_if, implies, all_below}
 
 -- a case for each answer of a test
 pub by_test : {P : Type 0} (b : Bool) → (b ≡ true → P) → (b ≡ false → P) → P

@@ -5,7 +5,7 @@ use Prim.Native.Nat.{ℕ}
 use lib.Bits.{bit_and, bit_xor, and_comm, and_self}
 use lib.Dec.{eqb}
 use borrow.Author.Tests.{eqb-true, eqb-false, eq-eqb, not-true}
-use Rattle.lines.specs.Logic.{if◌then◌else◌}
+use Rattle.std.specs.Prelude.{if◌then◌else◌}
 use Rattle.lines.proofs.Laws.Bits.{and_assoc}
 use Rattle.lines.proofs.Laws.Logic.{by_test, and_left, and_right, and_in}
 use Rattle.objects.specs.Groups.{no_group, group_fitb, or_optionb, some_setb, all_setb, metb, less_flags}

@@ -9,7 +9,7 @@ use lib.ListN.{length, take, drop, get_or, length-take}
 use lib.Seq.{drop-cons, get_or-take}
 use lib.Dec.{ltb}
 use borrow.Author.Tests.{ltb-true, ltb-false}
-use Rattle.lines.specs.Logic.{if◌then◌else◌}
+use Rattle.std.specs.Prelude.{if◌then◌else◌}
 use Rattle.lines.specs.Lists.{filter, count, first_with}
 use Rattle.lines.specs.Loops.{better_of}
 use Rattle.lines.specs.declared.Best.{Best}

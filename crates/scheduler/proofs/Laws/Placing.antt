@@ -1,12 +1,13 @@
 -- The test of soundness thread by thread: each state has its own few tests, and a limit on priorities stands for the choice.
 use mathlib.Core.Path.{◌≡◌, sym, ap, ◌∙◌}
-use mathlib.Core.Bool.{Bool, true, false, ◌&&◌, ◌||◌, not, and-true, and-false, and_assoc, or-true, or_false}
+use mathlib.Core.Bool.{Bool, true, false, ◌&&◌, ◌||◌, not, and-true, and-false, and_assoc, or-true, or-false}
 use Prim.Native.Nat.{ℕ, ◌≤◌, ◌<◌}
 use native.Mathlib.Omega.{arith}
 use lib.ListN.{length}
 use lib.Dec.{eqb, ltb, leb}
 use borrow.Author.Tests.{ltb-true, ltb-false, lt-ltb, le-ltb, leb-true, le-leb, eqb-true, eq-eqb, ne_eqb, not-true}
-use Rattle.lines.specs.Logic.{if◌then◌else◌, one_if, implies, all_below}
+use Rattle.std.specs.Prelude.{if◌then◌else◌}
+use Rattle.lines.specs.Logic.{one_if, implies, all_below}
 use Rattle.lines.specs.Lists.{count, below}
 use Rattle.lines.specs.Lines.{members, cleanb}
 use Rattle.lines.proofs.Laws.Logic.{by_test, never, and_left, and_right, and_in, or_right, implies_out, implies_in, all-at, all_in}
@@ -58,13 +59,13 @@ module _ (th : Thread) (made : th.created ≡ true) where
       → (limitsb th && (not th.marked || ltb th.threshold th.priority) && not th.suspending && eqb th.ticks 0 && eqb th.object 0) ≡ fitb th
   unfolding mark_fitb suspension_fitb ticks_fitb object_fitb implies
   fit-ready s =
-      sym (fit-created th made ∙ rw (ready_in s, rest-not_paused th (omega (arith, s)), not-waiting th (omega (arith, s)), or_false))
+      sym (fit-created th made ∙ rw (ready_in s, rest-not_paused th (omega (arith, s)), not-waiting th (omega (arith, s)), or-false))
 
   fit_resting : 0 < th.state → th.state < 4
       → (limitsb th && not th.marked && not th.suspending && eqb th.ticks 0 && eqb th.object 0) ≡ fitb th
   unfolding mark_fitb suspension_fitb ticks_fitb object_fitb implies
   fit_resting l h =
-      sym (fit-created th made ∙ rw (not-ready th l, rest-not_paused th h, not-waiting th (omega (arith, h)), or_false (not th.marked), or_false (not th.suspending)))
+      sym (fit-created th made ∙ rw (not-ready th l, rest-not_paused th h, not-waiting th (omega (arith, h)), or-false (not th.marked), or-false (not th.suspending)))
 
   waits-made : waitsb th ≡ ltb 4 th.state
   unfolding waitsb
@@ -75,7 +76,7 @@ module _ (th : Thread) (made : th.created ≡ true) where
   unfolding mark_fitb suspension_fitb ticks_fitb object_fitb implies
   fit_paused l =
       sym (fit-created th made
-      ∙ rw (not-ready th (omega (arith, l)), paused_in th made l, waits-made, or_false, or-true, and-true (limitsb th && not th.marked), and-true (ltb 0 th.ticks)))
+      ∙ rw (not-ready th (omega (arith, l)), paused_in th made l, waits-made, or-false, or-true, and-true (limitsb th && not th.marked), and-true (ltb 0 th.ticks)))
 
 -- ---- the same of every record, with the test of its state in front
 module _ (th : Thread) where

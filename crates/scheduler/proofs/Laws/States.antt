@@ -5,7 +5,8 @@ use Prim.Native.Nat.{ℕ, ◌≤◌, ◌<◌}
 use native.Mathlib.Omega.{arith}
 use lib.Dec.{eqb, ltb, leb}
 use borrow.Author.Tests.{ltb-true, ltb-false, lt-ltb, le-ltb, le-leb, eq-eqb, ne_eqb}
-use Rattle.lines.specs.Logic.{if◌then◌else◌, one_if, implies}
+use Rattle.std.specs.Prelude.{if◌then◌else◌}
+use Rattle.lines.specs.Logic.{one_if, implies}
 use Rattle.lines.specs.Lists.{count, first_with}
 use Rattle.lines.specs.Lines.{members}
 use Rattle.lines.proofs.Laws.Logic.{by_test, never, and_in, or_left, or_right, implies_in}

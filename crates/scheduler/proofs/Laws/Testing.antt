@@ -6,7 +6,8 @@ use native.Mathlib.Omega.{arith}
 use lib.ListN.{length}
 use lib.Dec.{eqb, ltb, leb}
 use borrow.Author.Tests.{ltb-true, ltb-false, leb-true, le-leb, eq-eqb, eqb-true, not-true}
-use Rattle.lines.specs.Logic.{if◌then◌else◌, one_if, all_below}
+use Rattle.std.specs.Prelude.{if◌then◌else◌}
+use Rattle.lines.specs.Logic.{one_if, all_below}
 use Rattle.lines.specs.Lists.{count, below}
 use Rattle.lines.specs.Lines.{members, cleanb}
 use Rattle.lines.proofs.Laws.Logic.{by_test, never, and_left, and_right, and_in, all-at, all_in}

@@ -1,0 +1,15 @@
+use mathlib.Core.Path.{refl}
+use Rattle.calls.specs.Chains.{reset_refusal}
+use Rattle.calls.proofs.refusal.reset.Goals as goal
+
+pub returns : goal.returns
+unfolding reset_refusal
+returns c =
+    rw (
+      c.first-2.ensures,
+      c.first.ensures,
+      c.unless-3.ensures,
+      c.unless-2.ensures,
+      c.unless.ensures,
+    )
+    refl
