@@ -1,6 +1,5 @@
 -- The functions that C and Rust call: what each answers, and what it leaves in the lent block and the lent words (rules 14.3 to 14.7).
-use Rattle.std.specs.Prelude.{List, ℕ, ◌*◌, min, length, eqb, ltb}
-use Rattle.lines.specs.Logic.{if◌then◌else◌}
+use Rattle.std.specs.Prelude.{if◌then◌else◌, List, ℕ, ◌*◌, min, length, eqb, ltb}
 use Rattle.numbers.specs.Numbers.{nobody}
 use Rattle.calls.specs.Statuses as Statuses
 use Rattle.calls.specs.declared.call.Request.{Request}

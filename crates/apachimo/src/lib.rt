@@ -2,6 +2,9 @@
 //
 // The tables cross as a block of bytes that the caller lends. Every block is answered: one of another size with 0x05, one
 // that holds no sound tables with 0x100.
+
+#![tactic(auto)]
+
 ghost use Rattle.std.specs.Prelude.{◌≡◌, length};
 ghost use Rattle.kernel.specs.Claims.{doneb};
 ghost use Rattle.kernel.specs.General.{call};
@@ -18,7 +21,7 @@ use tape::replies::{REPLY_WORDS, Reply, put_replies, refusal};
 
 // A run's result: its own status, and how many records it carried out.
 #[repr(C)]
-#[derive(Drop)]
+#[derive(Clone, Copy)]
 pub struct Run {
     pub status: u32,
     pub carried: u32,
@@ -67,16 +70,14 @@ fn run_refusal(state: &[u8], tape: &[u8], most: u32, room: usize) -> u32
 }
 
 // How many bytes a block of tables has.
-#[unsafe(no_mangle)]
-pub extern "C" fn apachimo_state_bytes() -> usize
+pub fn apachimo_state_bytes() -> usize
     ensures { result ≡ state_bytes }
 {
     layout::STATE_BYTES
 }
 
 // Writes tables in which nothing is created.
-#[unsafe(no_mangle)]
-pub extern "C" fn apachimo_start(state: &mut [u8]) -> u32
+pub fn apachimo_start(state: &mut [u8]) -> u32
     ensures value { result ≡ start_status state.old }
     ensures state_after { state.new ≡ start_block state.old }
 {
@@ -88,8 +89,7 @@ pub extern "C" fn apachimo_start(state: &mut [u8]) -> u32
 }
 
 // Whether the tables are sound: 0 or 0x100.
-#[unsafe(no_mangle)]
-pub extern "C" fn apachimo_is_sound(state: &[u8]) -> u32
+pub fn apachimo_is_sound(state: &[u8]) -> u32
     ensures { result ≡ sound_status state.now }
 {
     let reason = block_refusal(state);
@@ -106,8 +106,7 @@ pub extern "C" fn apachimo_is_sound(state: &[u8]) -> u32
 
 // One call: its number, the caller's kind, four arguments, and the lent words that a send takes its message from. The
 // tables are written back where the call was carried out, and not touched where it was refused.
-#[unsafe(no_mangle)]
-pub extern "C" fn apachimo_call(
+pub fn apachimo_call(
     state: &mut [u8],
     number: u32,
     caller: u32,
@@ -136,12 +135,11 @@ pub extern "C" fn apachimo_call(
     let answer = k.call(request, messages);
     let words = answer.words;
     let next = answer.next;
-    let ended = answer.ended;
     let reply = Reply {
         status: answer.status,
         words,
         next: next.0 as u32,
-        ended,
+        ended: answer.ended,
     };
     if is_done(answer.status) {
         writing::put_answer(state, answer);
@@ -149,10 +147,9 @@ pub extern "C" fn apachimo_call(
     reply
 }
 
-// Carries out the records of a tape, at most `most` of them, and writes twenty-two words for each: status, sixteen words, next thread, and
-// the waits that ended served, timed out, aborted, deleted. On unsound tables each record is answered with 0x100.
-#[unsafe(no_mangle)]
-pub extern "C" fn apachimo_run(state: &mut [u8], tape: &[u8], most: u32, replies: &mut [u32]) -> Run
+// Carries out the records of a tape, at most `most` of them, and writes nineteen words for each: status, sixteen words, next
+// thread, ended waits. On unsound tables each record is answered with 0x100.
+pub fn apachimo_run(state: &mut [u8], tape: &[u8], most: u32, replies: &mut [u32]) -> Run
     ensures value { result ≡ run_result state.old tape.now most (length replies.old) }
     ensures state_after { state.new ≡ run_block state.old tape.now most (length replies.old) }
     ensures replies_after { replies.new ≡ run_replies state.old tape.now most replies.old }

@@ -1,6 +1,6 @@
 -- First come, first served, counted (rules 13.1 to 13.4). The roll is kept from the calls and their statuses alone.
-use Rattle.std.specs.Prelude.{◌≡◌, List, [], ◌∷◌, ◌++◌, Bool, true, false, ◌&&◌, ◌||◌, not, ℕ, ◌+◌, ◌-◌, ◌<◌, ◌≤◌, length, eqb, ltb}
-use Rattle.lines.specs.Logic.{if◌then◌else◌, one_if}
+use Rattle.std.specs.Prelude.{if◌then◌else◌, ◌≡◌, List, [], ◌∷◌, ◌++◌, Bool, true, false, ◌&&◌, ◌||◌, not, ℕ, ◌+◌, ◌-◌, ◌<◌, ◌≤◌, length, eqb, ltb}
+use Rattle.lines.specs.Logic.{one_if}
 use Rattle.lines.specs.Lists.{filter, only_if, count, less, Begins}
 use Rattle.scheduler.specs.Threads.{ready, suspended, terminated, finishedb}
 use Rattle.scheduler.specs.Orders.{line_at}

@@ -1,7 +1,6 @@
 -- Blocks of bytes: parts, words and flags in them, tables of records that lie one behind the other (rule 14.1).
-use Rattle.std.specs.Prelude.{List, [], ◌∷◌, ◌++◌, map, Bool, ℕ, ◌*◌, take, drop, get_or, eqb}
+use Rattle.std.specs.Prelude.{if◌then◌else◌, List, [], ◌∷◌, ◌++◌, map, Bool, ℕ, ◌*◌, take, drop, get_or, eqb}
 use Rattle.words.specs.Words.{word_size, word, half}
-use Rattle.lines.specs.Logic.{if◌then◌else◌}
 use Rattle.lines.specs.Lists.{numbers_from}
 
 -- the n bytes from byte a on

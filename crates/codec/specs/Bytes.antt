@@ -1,6 +1,5 @@
 -- The block of bytes that tables are written to (rule 14.1): the counterpart of State.
-use Rattle.std.specs.Prelude.{List, [], ◌∷◌, ◌++◌, Bool, ℕ, eqb, length}
-use Rattle.lines.specs.Logic.{if◌then◌else◌}
+use Rattle.std.specs.Prelude.{if◌then◌else◌, List, [], ◌∷◌, ◌++◌, Bool, ℕ, eqb, length}
 use Rattle.scheduler.specs.declared.thread.Thread.{Thread}
 use Rattle.scheduler.specs.declared.Scheduler.{Scheduler}
 use Rattle.objects.specs.declared.semaphore.Semaphore.{Semaphore}

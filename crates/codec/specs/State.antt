@@ -1,7 +1,7 @@
 -- The tables that a block of bytes holds (rule 14.1), and the test of its flags (rule 14.3). The fields lie in the kernel's order with no
 -- gaps.
-use Rattle.std.specs.Prelude.{List, Bool, ◌&&◌, ℕ, ◌+◌, ◌*◌, eqb, leb, length}
-use Rattle.lines.specs.Logic.{if◌then◌else◌, all_below}
+use Rattle.std.specs.Prelude.{if◌then◌else◌, List, Bool, ◌&&◌, ℕ, ◌+◌, ◌*◌, eqb, leb, length}
+use Rattle.lines.specs.Logic.{all_below}
 use Rattle.scheduler.specs.declared.thread.Thread.{Thread}
 use Rattle.scheduler.specs.declared.Scheduler.{Scheduler}
 use Rattle.objects.specs.declared.semaphore.Semaphore.{Semaphore}

@@ -2,6 +2,9 @@
 //
 // The functions over a whole block take bytes of every number, and pass over those that are no block; those inside take parts of a known
 // length.
+
+#![tactic(auto)]
+
 pub mod flags;
 pub mod layout;
 pub mod reading;

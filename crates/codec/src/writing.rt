@@ -14,7 +14,6 @@ use numbers::{NOBODY, ThreadId};
 use objects::group::Group;
 use objects::queue::Queue;
 use objects::semaphore::Semaphore;
-use reasons::NO_WAITS;
 use scheduler::Scheduler;
 use scheduler::thread::Thread;
 use words::{WORD_BYTES, bytes_of, half_bytes_of};
@@ -295,7 +294,7 @@ pub fn put_kernel(b: &mut [u8], k: Kernel)
             status: SUCCESS,
             words: [0; layout::WORDS],
             next: ThreadId(NOBODY),
-            ended: NO_WAITS,
+            ended: 0,
             kernel: k,
         },
     );

@@ -1,7 +1,6 @@
 -- What the code's step finds: the chains of the calls, each the call's own part of the table of refusals. Nothing here needs to be
 -- believed: that the table says the same is proved (proofs/Laws/Refusals.antt).
-use Rattle.std.specs.Prelude.{List, ℕ, length}
-use Rattle.lines.specs.Logic.{if◌then◌else◌}
+use Rattle.std.specs.Prelude.{if◌then◌else◌, List, ℕ, length}
 use Rattle.calls.specs.Statuses as Statuses
 use Rattle.calls.specs.Chains.{
   nobody_runsb,

@@ -1,9 +1,7 @@
 -- What is proved of the general call's definition, in one record. Its proof is `claims` of proofs/Laws/Claims.antt.
-use Rattle.std.specs.Prelude.{◌≡◌, List, Bool, true, false, ◌||◌, not, ℕ, ◌≤◌, min, eqb}
+use Rattle.std.specs.Prelude.{if◌then◌else◌, ◌≡◌, List, Bool, true, false, ◌||◌, not, ℕ, ◌≤◌, min, eqb}
 use Rattle.numbers.specs.Numbers.{nobody}
-use Rattle.lines.specs.Logic.{if◌then◌else◌}
 use Rattle.lines.specs.Lists.{count}
-use Rattle.reasons.specs.Reasons.{no_waits}
 use Rattle.scheduler.specs.declared.thread.Place.{Place}
 use Rattle.scheduler.specs.Orders.{line_at}
 use Rattle.calls.specs.Held.{no_words}
@@ -23,11 +21,11 @@ use Rattle.kernel.specs.Sound.{soundb, Sized, Sound}
 unfoldable pub doneb : ℕ → Bool
 doneb status = eqb status Statuses.success || eqb status Statuses.suspend_lifted || eqb status Statuses.waiting
 
--- rules 2.4, 2.5: the answer of a refused call: tables unchanged, words and counts zero, and who runs stays, but 0x100 names nobody
+-- rules 2.4, 2.5: the answer of a refused call: tables unchanged, words and count zero, and who runs stays, but 0x100 names nobody
 pub record Unchanged (k : Kernel) (r : Answer) : Type 0 where
   pub kernel : r.kernel ≡ k
   pub words : r.words ≡ no_words
-  pub ended : r.ended ≡ no_waits
+  pub ended : r.ended ≡ 0
   pub next : r.next.0 ≡ (if eqb r.status Statuses.tables_unsound then nobody else runner_of k)
 
 -- rules 2.10, 2.11: a call of number n that is carried out. Its effect decides the answer, what it does is such as a call of that number

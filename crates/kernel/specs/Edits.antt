@@ -1,23 +1,18 @@
 -- What a call does to the tables, as a list of edits, each with its cause.
-use Rattle.std.specs.Prelude.{◌≡◌, List, [], ◌∷◌, ◌++◌, Bool, true, false, ◌&&◌, ℕ, eqb}
-use Rattle.lines.specs.Logic.{if◌then◌else◌}
+use Rattle.std.specs.Prelude.{if◌then◌else◌, ◌≡◌, List, [], ◌∷◌, ◌++◌, Bool, true, false, ◌&&◌, ℕ, eqb}
 use Rattle.lines.specs.Lists.{without, only_if, prioritised}
 use Rattle.scheduler.specs.declared.thread.Thread.{Thread}
 use Rattle.scheduler.specs.declared.thread.Place.{Place}
 use Rattle.scheduler.specs.Threads.{terminated, placedb, awake, in_state, at_rest}
 use Rattle.scheduler.specs.Orders.{priority_at, joined, with_thread, prioritised_at}
 use Rattle.scheduler.specs.Choice.{rescheduled}
-use Rattle.reasons.specs.declared.Reason.{Reason}
-use Rattle.reasons.specs.declared.Reason.TheVariants.{Served, TimedOut, Aborted, Deleted}
 use Rattle.calls.specs.declared.held.Held.{Held}
 use Rattle.calls.specs.Held.{no_held, holding}
 use Rattle.calls.specs.Statuses as Statuses
-use Rattle.waiting.specs.declared.ends.By.{By}
-use Rattle.waiting.specs.Ends.{reason_by, status_left}
 use Rattle.waiting.specs.Ticks.{timeout_status, one_tick_less}
 use Rattle.kernel.specs.declared.Kernel.{Kernel}
 use Rattle.kernel.specs.Tables.{thread_of, held_at, with_scheduler, with_held, with_clock}
-use Rattle.kernel.specs.Answers.{Ended, Outcome, refused}
+use Rattle.kernel.specs.Answers.{Outcome, refused}
 use Rattle.kernel.specs.Kinds.{Kind, Object, place_of, with_object}
 
 -- rule 5.4: why a wait ends: its object serves it, its object is deleted, its last tick has passed, it is aborted
@@ -34,16 +29,9 @@ status_by (deleted d n) th h = Statuses.deleted
 status_by timed_out th h = timeout_status th h
 status_by aborted th h = Statuses.wait_aborted
 
--- rules 2.8, 5.4: the reason by which the wait is counted
-abbrev pub reason_of : Cause → Reason
-reason_of (served d n) = Served
-reason_of (deleted d n) = Deleted
-reason_of timed_out = TimedOut
-reason_of aborted = Aborted
-
--- rule 5.4: what the code calls this cause: the same reason, and the same status for everybody
-abbrev pub Matches : Cause → By → Type 0
-Matches c by = (reason_of c ≡ reason_by by) × ((th : Thread) (h : Held) → status_by c th h ≡ status_left by)
+-- rule 5.4: whoever has its wait ended for that cause holds this status
+abbrev pub Holds : Cause → ℕ → Type 0
+Holds c status = (th : Thread) (h : Held) → status_by c th h ≡ status
 
 -- rule 2.10: how a thread changes that leaves its order and joins another, or none
 pub data Move : Type 0 where
@@ -108,7 +96,7 @@ applied k [] = k
 applied k (e ∷ es) = applied (edited k e) es
 
 -- what each edit names, in order
-unfoldable pub gathered : {A : Type 0} → (Edit → List A) → List Edit → List A
+unfoldable pub gathered : (Edit → List ℕ) → List Edit → List ℕ
 gathered f [] = []
 gathered f (e ∷ es) = f e ++ gathered f es
 
@@ -148,22 +136,6 @@ endsb (ends c words) = true
 endsb (starts front state object ticks h) = false
 endsb stops = false
 endsb (turns f g) = false
-
--- rule 2.8: the wait that one edit ends with a status, if any
-abbrev pub ending : Edit → List Ended
-ending (moves t (ends c words)) = record { thread = t; reason = reason_of c } ∷ []
-ending (moves t (starts front state object ticks h)) = []
-ending (moves t stops) = []
-ending (moves t (turns f g)) = []
-ending (alters t f) = []
-ending (counts t) = []
-ending (ranks d n) = []
-ending (stores d n x) = []
-ending (sets c) = []
-
--- rule 2.8: all waits that end with a status, in order
-abbrev pub endings : List Edit → List Ended
-endings es = gathered ending es
 
 -- a wait or sleep begins
 unfoldable pub startsb : Move → Bool
@@ -223,13 +195,13 @@ pub record Effect : Type 0 where
   pub relinquishes : Bool
   pub edits : List Edit
 
--- rules 2.7, 2.8, 2.10, 4.7: the edits, then the choice of the next thread, once; and the waits that ended
+-- rules 2.7, 2.8, 2.10, 4.7: the edits, then the choice of the next thread, once; and the threads whose waits ended
 unfoldable pub carried_out : Kernel → Effect → Outcome
 carried_out k e =
     record {
       status = status_of e.success;
       words = e.words;
-      ended = endings e.edits;
+      ended = movers endsb e.edits;
       kernel = with_scheduler (applied k e.edits) (rescheduled (applied k e.edits).scheduler e.relinquishes);
     }
 

@@ -1,7 +1,6 @@
 -- Effects that many calls share.
-use Rattle.std.specs.Prelude.{List, [], ◌∷◌, ◌++◌, Bool, true, false, ℕ, ◌-◌, ltb}
+use Rattle.std.specs.Prelude.{if◌then◌else◌, List, [], ◌∷◌, ◌++◌, Bool, true, false, ℕ, ◌-◌, ltb}
 use Rattle.numbers.specs.Numbers.{nobody}
-use Rattle.lines.specs.Logic.{if◌then◌else◌}
 use Rattle.scheduler.specs.Orders.{line_at, first_at}
 use Rattle.objects.specs.declared.semaphore.Semaphore.{Semaphore}
 use Rattle.blocks.specs.Pools.{without_next}

@@ -1,8 +1,8 @@
 -- The waits that a call ends, told from the tables before and after it. What is claimed of them is the record `EndedClaims`, whose proof is
 -- `ended` of proofs/Laws/Ended.antt.
-use Rattle.std.specs.Prelude.{◌≡◌, List, [], ◌∷◌, Bool, true, ◌&&◌, ◌||◌, not, ℕ, ◌-◌, length, eqb}
+use Rattle.std.specs.Prelude.{if◌then◌else◌, ◌≡◌, List, [], ◌∷◌, Bool, true, ◌&&◌, ◌||◌, not, ℕ, ◌-◌, length, eqb}
 use Rattle.numbers.specs.Numbers.{threads}
-use Rattle.lines.specs.Logic.{if◌then◌else◌, one_if}
+use Rattle.lines.specs.Logic.{one_if}
 use Rattle.lines.specs.Lists.{numbers_from, filter, count}
 use Rattle.scheduler.specs.declared.thread.Thread.{Thread}
 use Rattle.scheduler.specs.Threads.{ready, terminated, suspended, asleep, on_queue, on_semaphore, on_flags, pausedb}

@@ -1,8 +1,6 @@
 -- The general call: the effect of each call, and the answer to a request (rules 2.5 to 2.7).
-use Rattle.std.specs.Prelude.{List, true, false, ℕ}
-use Rattle.lines.specs.Logic.{if◌then◌else◌}
+use Rattle.std.specs.Prelude.{if◌then◌else◌, List, true, false, ℕ}
 use Rattle.numbers.specs.Numbers.{nobody}
-use Rattle.reasons.specs.Reasons.{no_waits}
 use Rattle.scheduler.specs.Threads.{completed, suspended}
 use Rattle.objects.specs.Queues.{empty_queue}
 use Rattle.objects.specs.Groups.{group_with}
@@ -142,7 +140,7 @@ step k q messages = step_of k q (decoded q) messages
 
 -- rule 2.5: unsound tables are handed back as they are, and nobody runs next
 unfoldable pub unsound : Kernel → Answer
-unsound k = record { status = Statuses.tables_unsound; words = no_words; next = record { 0 = nobody }; ended = no_waits; kernel = k }
+unsound k = record { status = Statuses.tables_unsound; words = no_words; next = record { 0 = nobody }; ended = 0; kernel = k }
 
 -- rule 2.5: the general call: unsound tables are refused before anything else
 unfoldable pub call : Kernel → Request → List ℕ → Answer

@@ -1,7 +1,6 @@
 -- What calls 31 and 32 do; 29 creates a group with no flag set, 30 removes it.
-use Rattle.std.specs.Prelude.{List, [], ◌∷◌, ◌++◌, false, ℕ, eqb}
+use Rattle.std.specs.Prelude.{if◌then◌else◌, List, [], ◌∷◌, ◌++◌, false, ℕ, eqb}
 use Rattle.std.specs.Int.Bits.{bit_and, bit_or}
-use Rattle.lines.specs.Logic.{if◌then◌else◌}
 use Rattle.lines.specs.Lists.{filter, union_of}
 use Rattle.scheduler.specs.Orders.{line_at}
 use Rattle.objects.specs.Groups.{group_with, metb, clear_of, less_flags}

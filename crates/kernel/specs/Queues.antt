@@ -1,6 +1,5 @@
 -- What calls 24 to 27 do; 22 creates an empty queue, 23 removes it, 28 prioritises its line.
-use Rattle.std.specs.Prelude.{List, [], ◌∷◌, ◌++◌, Bool, false, ℕ}
-use Rattle.lines.specs.Logic.{if◌then◌else◌}
+use Rattle.std.specs.Prelude.{if◌then◌else◌, List, [], ◌∷◌, ◌++◌, Bool, false, ℕ}
 use Rattle.scheduler.specs.Orders.{first_at}
 use Rattle.objects.specs.Queues.{emptyb, roomb, oldest, without_oldest, with_sent, given_past, left_past, flushed}
 use Rattle.calls.specs.Held.{no_words, held_waiting, sending, message_of}

@@ -1,7 +1,6 @@
 -- The table of refusals: each row a status, the calls that it is for, and when it is given, in the order in which the rows are tried
 -- (chapter 3 of the rules).
-use Rattle.std.specs.Prelude.{List, [], ◌∷◌, Bool, true, ◌&&◌, ◌||◌, not, ℕ, ◌+◌, min, eqb, ltb, leb, length}
-use Rattle.lines.specs.Logic.{if◌then◌else◌}
+use Rattle.std.specs.Prelude.{if◌then◌else◌, List, [], ◌∷◌, Bool, true, ◌&&◌, ◌||◌, not, ℕ, ◌+◌, min, eqb, ltb, leb, length}
 use Rattle.numbers.specs.Numbers.{nobody, priorities}
 use Rattle.scheduler.specs.Threads.{suspended, pausedb, finishedb}
 use Rattle.objects.specs.Semaphores.{largest_count}

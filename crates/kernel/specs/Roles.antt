@@ -1,7 +1,7 @@
 -- The calls of each kind of object, by number, and what a call of a number may do.
-use Rattle.std.specs.Prelude.{List, [], ◌∷◌, Bool, true, ◌&&◌, ◌||◌, ℕ, eqb, ltb}
+use Rattle.std.specs.Prelude.{if◌then◌else◌, List, [], ◌∷◌, Bool, true, ◌&&◌, ◌||◌, ℕ, eqb, ltb}
 use Rattle.numbers.specs.Numbers.{threads}
-use Rattle.lines.specs.Logic.{if◌then◌else◌, implies}
+use Rattle.lines.specs.Logic.{implies}
 use Rattle.scheduler.specs.Threads.{on_queue}
 use Rattle.calls.specs.Services.{
   thread_resume,

@@ -1,6 +1,5 @@
 -- Runs of call tapes: the records one after the other, each on the tables that the last one handed back (rules 11.2 to 11.5).
-use Rattle.std.specs.Prelude.{List, [], ◌∷◌, ℕ, ◌+◌, min, take}
-use Rattle.lines.specs.Logic.{if◌then◌else◌}
+use Rattle.std.specs.Prelude.{if◌then◌else◌, List, [], ◌∷◌, ℕ, ◌+◌, min, take}
 use Rattle.calls.specs.Statuses as Statuses
 use Rattle.calls.specs.declared.call.Request.{Request}
 use Rattle.tape.specs.declared.replies.Reply.{Reply}

@@ -1,6 +1,5 @@
 -- What calls 1 to 12, 38 and 39 do.
-use Rattle.std.specs.Prelude.{[], ◌∷◌, true, false, ℕ, eqb}
-use Rattle.lines.specs.Logic.{if◌then◌else◌}
+use Rattle.std.specs.Prelude.{if◌then◌else◌, [], ◌∷◌, true, false, ℕ, eqb}
 use Rattle.scheduler.specs.Threads.{ready, suspended, asleep, uncreated, readyb, pausedb, finishedb, at_rest, with_suspension, created}
 use Rattle.scheduler.specs.Changes.{with_levels, with_priority}
 use Rattle.calls.specs.declared.held.Held.{Held}

@@ -1,6 +1,5 @@
 -- The block view from the tables: which bytes of a lent pool area are a block's, and what the area is after a write into them.
-use Rattle.std.specs.Prelude.{List, ℕ}
-use Rattle.lines.specs.Logic.{if◌then◌else◌}
+use Rattle.std.specs.Prelude.{if◌then◌else◌, List, ℕ}
 use Rattle.blocks.specs.declared.pool.Pool.{Pool}
 use Rattle.blocks.specs.declared.view.Extent.{Extent}
 use Rattle.blocks.specs.Pools.{no_pool}

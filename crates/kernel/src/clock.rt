@@ -6,11 +6,10 @@ ghost use Rattle.kernel.specs.Edits.{guarded};
 ghost use Rattle.kernel.specs.Clock.{clock_effect, clock_set_effect, tick_effect};
 
 use super::{Answer, Kernel, two_words};
+use calls::held::Held;
 use calls::refusal;
 use calls::status::SUCCESS;
 use numbers::{MESSAGE_WORDS, THREADS, ThreadId};
-use reasons::{Counts, NO_WAITS};
-use waiting::ends::{By, ended};
 use waiting::ticks::{is_last_tick, is_timed, next_time, timeout_status, with_ticks};
 
 impl Kernel {
@@ -19,7 +18,7 @@ impl Kernel {
     {
         let s = self.scheduler;
         let words = two_words(self.clock, 0);
-        self.carried(s, SUCCESS, words, NO_WAITS)
+        self.carried(s, SUCCESS, words, 0)
     }
 
     pub(crate) fn time_set(mut self, time: u32) -> Answer
@@ -27,7 +26,7 @@ impl Kernel {
     {
         let s = self.scheduler;
         self.clock = time;
-        self.carried(s, SUCCESS, [0; MESSAGE_WORDS], NO_WAITS)
+        self.carried(s, SUCCESS, [0; MESSAGE_WORDS], 0)
     }
 
     // The clock goes up by one, and every timed wait has one tick less.
@@ -41,26 +40,23 @@ impl Kernel {
         let time = next_time(self.clock);
         let mut k = self;
         let mut s = k.scheduler;
-        let mut counts = NO_WAITS;
-        let mut n: u32 = 0;
+        let mut ended: u32 = 0;
         let mut t: usize = 0;
         while t < THREADS {
             let i = t;
             let th = s.threads[i];
             t += 1;
             if is_last_tick(th) {
-                let e = ended(By::Tick(timeout_status(th, k.held[i])), [0; MESSAGE_WORDS]);
-                let h = e.held;
+                let h = Held::of(timeout_status(th, k.held[i]), [0; MESSAGE_WORDS]);
                 k.held[i] = h;
                 s = s.woken(ThreadId(i as u8));
-                n += 1;
-                counts = Counts::of(e.reason, n);
+                ended += 1;
             } else if is_timed(th) {
                 let later = with_ticks(th, th.ticks - 1);
                 s.threads[i] = later;
             }
         }
         k.clock = time;
-        k.carried(s, SUCCESS, [0; MESSAGE_WORDS], counts)
+        k.carried(s, SUCCESS, [0; MESSAGE_WORDS], ended)
     }
 }

@@ -10,7 +10,6 @@ use calls::call::{Call, Decoded, Request, decode};
 use calls::refusal::nobody_runs;
 use calls::status::{NOBODY_RUNS, TABLES_UNSOUND, UNKNOWN_CALL};
 use numbers::{MESSAGE_WORDS, NOBODY, ThreadId};
-use reasons::NO_WAITS;
 
 impl Kernel {
     // One call. `messages` are the lent words that a send takes its message from. Unsound tables are refused.
@@ -22,7 +21,7 @@ impl Kernel {
                 status: TABLES_UNSOUND,
                 words: [0; MESSAGE_WORDS],
                 next: ThreadId(NOBODY),
-                ended: NO_WAITS,
+                ended: 0,
                 kernel: self,
             };
         }

@@ -14,13 +14,11 @@ use super::{Answer, Kernel, two_words};
 use calls::call::option_of;
 use calls::held::Held;
 use calls::refusal;
-use calls::status::{SUCCESS, WAITING};
+use calls::status::{DELETED, SUCCESS, WAITING};
 use matching::woken;
 use numbers::{GROUPS, GroupId, MESSAGE_WORDS, THREADS, ThreadId};
 use objects::group::{Group, cleared_by, is_met, less};
-use reasons::{Counts, NO_WAITS};
 use scheduler::thread::Place;
-use waiting::ends::{By, ended};
 
 // The record of group `n`, that of an uncreated one past the table.
 fn group_in(all: [Group; GROUPS], n: GroupId) -> Group
@@ -53,7 +51,7 @@ impl Kernel {
         let s = self.scheduler;
         let changed = groups_with(all, n, Group::of(0));
         self.groups = changed;
-        self.carried(s, SUCCESS, [0; MESSAGE_WORDS], NO_WAITS)
+        self.carried(s, SUCCESS, [0; MESSAGE_WORDS], 0)
     }
 
     pub(crate) fn event_flags_delete(mut self, caller: u32, n: GroupId) -> Answer
@@ -68,7 +66,7 @@ impl Kernel {
         let line = s.line_at(Place::group(n));
         let changed = groups_with(all, n, Group::none());
         self.groups = changed;
-        self.ended_each(line, By::Delete, [0; MESSAGE_WORDS])
+        self.ended_each(line, DELETED, [0; MESSAGE_WORDS])
     }
 
     // Whoever waits for flags that are now set is woken with them; clears are taken off afterwards. The waits end here, since
@@ -92,11 +90,10 @@ impl Kernel {
         self.groups = changed;
         let line = met.line;
         let ids = line.ids;
-        let count = line.size() as usize;
-        let e = ended(By::Give, two_words(flags, 0));
-        let h = e.held;
+        let ended = line.size() as usize;
+        let h = Held::of(SUCCESS, two_words(flags, 0));
         let mut i: usize = 0;
-        while i < count {
+        while i < ended {
             let x = ThreadId(ids[i]);
             let u = x.0 as usize;
             i += 1;
@@ -105,12 +102,7 @@ impl Kernel {
                 self.held[u] = h;
             }
         }
-        self.carried(
-            s,
-            SUCCESS,
-            [0; MESSAGE_WORDS],
-            Counts::of(e.reason, count as u32),
-        )
+        self.carried(s, SUCCESS, [0; MESSAGE_WORDS], ended as u32)
     }
 
     pub(crate) fn event_flags_set(mut self, n: GroupId, flags: u32, option: u32) -> Answer
@@ -128,7 +120,7 @@ impl Kernel {
         let s = self.scheduler;
         let changed = groups_with(all, n, Group::of(g.flags & flags));
         self.groups = changed;
-        self.carried(s, SUCCESS, [0; MESSAGE_WORDS], NO_WAITS)
+        self.carried(s, SUCCESS, [0; MESSAGE_WORDS], 0)
     }
 
     pub(crate) fn event_flags_get(
@@ -165,6 +157,6 @@ impl Kernel {
                 self.held[i] = h;
             }
         }
-        self.carried(s, status, words, NO_WAITS)
+        self.carried(s, status, words, 0)
     }
 }

@@ -1,6 +1,9 @@
 // The kernel: the tables of everything, the services on them, and the general call.
 //
 // A service takes the tables by value and returns them inside its answer.
+
+#![tactic(auto)]
+
 ghost use Rattle.std.specs.Prelude.{◌≡◌, get_or};
 ghost use Rattle.objects.specs.Semaphores.{no_semaphore};
 ghost use Rattle.calls.specs.Held.{no_held, no_words, two_words};
@@ -14,7 +17,6 @@ use numbers::{GROUPS, MESSAGE_WORDS, POOLS, QUEUES, SEMAPHORES, SemaphoreId, THR
 use objects::group::Group;
 use objects::queue::Queue;
 use objects::semaphore::Semaphore;
-use reasons::{Counts, NO_WAITS};
 use scheduler::Scheduler;
 
 pub mod clock;
@@ -29,7 +31,7 @@ pub mod threads;
 pub mod view;
 pub mod waits;
 
-#[derive(Drop)]
+#[derive(Clone, Copy)]
 pub struct Kernel {
     pub scheduler: Scheduler,
     pub held: [Held; THREADS],
@@ -40,13 +42,13 @@ pub struct Kernel {
     pub clock: u32,
 }
 
-// A call's result. `next` is 32 where nobody runs, `ended` counts the waits that the call ended with a status, by reason.
-#[derive(Drop)]
+// A call's result. `next` is 32 where nobody runs, `ended` counts the waits that the call ended with a status.
+#[derive(Clone, Copy)]
 pub struct Answer {
     pub status: u32,
     pub words: [u32; MESSAGE_WORDS],
     pub next: ThreadId,
-    pub ended: Counts,
+    pub ended: u32,
     pub kernel: Kernel,
 }
 
@@ -76,7 +78,7 @@ impl Kernel {
             status,
             words: [0; MESSAGE_WORDS],
             next,
-            ended: NO_WAITS,
+            ended: 0,
             kernel: self,
         }
     }
@@ -87,7 +89,7 @@ impl Kernel {
         s: Scheduler,
         status: u32,
         words: [u32; MESSAGE_WORDS],
-        ended: Counts,
+        ended: u32,
     ) -> Answer
         ensures { result ≡ answered self s status words ended }
     {
@@ -111,7 +113,7 @@ impl Kernel {
         h: Held,
         s: Scheduler,
         status: u32,
-        ended: Counts,
+        ended: u32,
     ) -> Answer
         ensures { result ≡ answered (with_held self t.0 h) s status no_words ended }
     {

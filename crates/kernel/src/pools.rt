@@ -14,11 +14,9 @@ use super::{Answer, Kernel, two_words};
 use blocks::pool::Pool;
 use calls::held::Held;
 use calls::refusal;
-use calls::status::{SUCCESS, WAITING};
+use calls::status::{DELETED, SUCCESS, WAITING};
 use numbers::{MESSAGE_WORDS, POOLS, PoolId, THREADS};
-use reasons::{Counts, NO_WAITS};
 use scheduler::thread::Place;
-use waiting::ends::{By, ended};
 
 // The record of pool `n`, that of an uncreated one past the table.
 pub(crate) fn pool_in(all: [Pool; POOLS], n: PoolId) -> Pool
@@ -57,7 +55,7 @@ impl Kernel {
         let s = self.scheduler;
         let changed = pools_with(all, n, Pool::of(block, total));
         self.pools = changed;
-        self.carried(s, SUCCESS, [0; MESSAGE_WORDS], NO_WAITS)
+        self.carried(s, SUCCESS, [0; MESSAGE_WORDS], 0)
     }
 
     pub(crate) fn block_pool_delete(mut self, caller: u32, n: PoolId) -> Answer
@@ -72,7 +70,7 @@ impl Kernel {
         let line = s.line_at(Place::pool(n));
         let changed = pools_with(all, n, Pool::none());
         self.pools = changed;
-        self.ended_each(line, By::Delete, [0; MESSAGE_WORDS])
+        self.ended_each(line, DELETED, [0; MESSAGE_WORDS])
     }
 
     pub(crate) fn block_allocate(mut self, caller: u32, n: PoolId, wait: u32) -> Answer
@@ -101,7 +99,7 @@ impl Kernel {
                 self.held[i] = h;
             }
         }
-        self.carried(s, status, words, NO_WAITS)
+        self.carried(s, status, words, 0)
     }
 
     // The first in line gets the block, else it is free again.
@@ -115,20 +113,19 @@ impl Kernel {
             return self.refused(reason);
         }
         let mut s = self.scheduler;
-        let mut counts = NO_WAITS;
+        let mut ended: u32 = 0;
         let f = s.first_at(Place::pool(n));
         let i = f.0 as usize;
         if i < THREADS {
-            let e = ended(By::Give, two_words(block as u32, 0));
-            let h = e.held;
+            let h = Held::of(SUCCESS, two_words(block as u32, 0));
             self.held[i] = h;
             s = s.woken(f);
-            counts = Counts::of(e.reason, 1);
+            ended = 1;
         } else {
             let changed = pools_with(all, n, p.with_free(block));
             self.pools = changed;
         }
-        self.carried(s, SUCCESS, [0; MESSAGE_WORDS], counts)
+        self.carried(s, SUCCESS, [0; MESSAGE_WORDS], ended)
     }
 
     pub(crate) fn block_pool_prioritize(self, n: PoolId) -> Answer
@@ -144,7 +141,7 @@ impl Kernel {
             s.prioritised(Place::pool(n)),
             SUCCESS,
             [0; MESSAGE_WORDS],
-            NO_WAITS,
+            0,
         )
     }
 }

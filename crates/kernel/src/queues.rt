@@ -6,7 +6,7 @@ ghost use Rattle.calls.specs.Chains.{queue_create_refusal, queue_delete_refusal,
 ghost use Rattle.kernel.specs.Tables.{queue_at};
 ghost use Rattle.kernel.specs.Answers.{answer_of};
 ghost use Rattle.kernel.specs.Kinds.{Kind};
-ghost use Rattle.kernel.specs.Edits.{Cause, Matches, carried_out, guarded};
+ghost use Rattle.kernel.specs.Edits.{Cause, Holds, carried_out, guarded};
 ghost use Rattle.kernel.specs.Effects.{store_effect, close_effect, remove_effect, rank_effect};
 ghost use Rattle.kernel.specs.Queues.{send_effect, receive_effect, flush_effect};
 
@@ -15,12 +15,10 @@ use super::{Answer, Kernel};
 use calls::held::Held;
 use calls::message::message_in;
 use calls::refusal;
-use calls::status::{SUCCESS, WAITING};
+use calls::status::{DELETED, SUCCESS, WAITING};
 use numbers::{MESSAGE_WORDS, QUEUES, QueueId, THREADS};
 use objects::queue::Queue;
-use reasons::{Counts, NO_WAITS};
 use scheduler::thread::Place;
-use waiting::ends::{By, ended};
 
 // The record of queue `n`, that of an uncreated one past the table.
 fn queue_in(all: [Queue; QUEUES], n: QueueId) -> Queue
@@ -31,9 +29,9 @@ fn queue_in(all: [Queue; QUEUES], n: QueueId) -> Queue
 }
 
 impl Kernel {
-    // The waits of all at queue `n` end in one way, and the queue has another record.
-    fn queue_ended(mut self, n: QueueId, q: Queue, by: By) -> Answer
-        ensures { (c : Cause) → Matches c by → result ≡ answer_of (carried_out self (close_effect self c Kind.queue n.0 q)) }
+    // The waits of all at queue `n` end with a status, and the queue has another record.
+    fn queue_ended(mut self, n: QueueId, q: Queue, status: u32) -> Answer
+        ensures { (c : Cause) → Holds c status → result ≡ answer_of (carried_out self (close_effect self c Kind.queue n.0 q)) }
     {
         let s = self.scheduler;
         let line = s.line_at(Place::queue(n));
@@ -41,7 +39,7 @@ impl Kernel {
         if i < QUEUES {
             self.queues[i] = q;
         }
-        self.ended_each(line, by, [0; MESSAGE_WORDS])
+        self.ended_each(line, status, [0; MESSAGE_WORDS])
     }
 
     pub(crate) fn queue_create(
@@ -64,7 +62,7 @@ impl Kernel {
         if i < QUEUES {
             self.queues[i] = q;
         }
-        self.carried(s, SUCCESS, [0; MESSAGE_WORDS], NO_WAITS)
+        self.carried(s, SUCCESS, [0; MESSAGE_WORDS], 0)
     }
 
     pub(crate) fn queue_delete(self, caller: u32, n: QueueId) -> Answer
@@ -75,7 +73,7 @@ impl Kernel {
         if reason != 0 {
             return self.refused(reason);
         }
-        self.queue_ended(n, Queue::none(), By::Delete)
+        self.queue_ended(n, Queue::none(), DELETED)
     }
 
     // Send, and front send where `front` says so. The message is at `index` of the lent words; it goes to the first receiver in
@@ -100,16 +98,15 @@ impl Kernel {
         let message = message_in(messages, index, q.words);
         let mut s = self.scheduler;
         let mut status = SUCCESS;
-        let mut counts = NO_WAITS;
+        let mut ended: u32 = 0;
         if q.has_room() {
             let f = s.first_at(Place::queue(n));
             let i = f.0 as usize;
             if i < THREADS {
-                let e = ended(By::Give, message);
-                let h = e.held;
+                let h = Held::of(SUCCESS, message);
                 self.held[i] = h;
                 s = s.woken(f);
-                counts = Counts::of(e.reason, 1);
+                ended = 1;
             } else {
                 let filled = q.with_sent(front, message);
                 let j = n.0 as usize;
@@ -127,7 +124,7 @@ impl Kernel {
                 self.held[i] = h;
             }
         }
-        self.carried(s, status, [0; MESSAGE_WORDS], counts)
+        self.carried(s, status, [0; MESSAGE_WORDS], ended)
     }
 
     // The receiver waits, or gets a message; the first sender in line may then pass or store its own.
@@ -142,7 +139,7 @@ impl Kernel {
         }
         let mut s = self.scheduler;
         let mut status = SUCCESS;
-        let mut counts = NO_WAITS;
+        let mut ended: u32 = 0;
         let mut words: [u32; MESSAGE_WORDS] = [0; MESSAGE_WORDS];
         if q.is_empty() {
             let t = s.running;
@@ -162,11 +159,10 @@ impl Kernel {
                 let message = sender.message();
                 words = q.given_past(sender.front, message);
                 left = q.left_past(sender.front, message);
-                let e = ended(By::Take, [0; MESSAGE_WORDS]);
-                let h = e.held;
+                let h = Held::of(SUCCESS, [0; MESSAGE_WORDS]);
                 self.held[i] = h;
                 s = s.woken(f);
-                counts = Counts::of(e.reason, 1);
+                ended = 1;
             } else {
                 words = q.oldest();
                 left = q.without_oldest();
@@ -176,7 +172,7 @@ impl Kernel {
                 self.queues[j] = left;
             }
         }
-        self.carried(s, status, words, counts)
+        self.carried(s, status, words, ended)
     }
 
     pub(crate) fn queue_flush(self, n: QueueId) -> Answer
@@ -190,9 +186,9 @@ impl Kernel {
         }
         if q.is_empty() {
             let s = self.scheduler;
-            return self.carried(s, SUCCESS, [0; MESSAGE_WORDS], NO_WAITS);
+            return self.carried(s, SUCCESS, [0; MESSAGE_WORDS], 0);
         }
-        self.queue_ended(n, q.flushed(), By::Empty)
+        self.queue_ended(n, q.flushed(), SUCCESS)
     }
 
     pub(crate) fn queue_prioritize(self, n: QueueId) -> Answer
@@ -208,7 +204,7 @@ impl Kernel {
             s.prioritised(Place::queue(n)),
             SUCCESS,
             [0; MESSAGE_WORDS],
-            NO_WAITS,
+            0,
         )
     }
 }

@@ -9,7 +9,7 @@ use numbers::{NOBODY, ThreadId};
 use tape::replies::{Reply, put_replies, put_reply, refusal};
 
 // The tables after a run, and how many records it carried out.
-#[derive(Drop)]
+#[derive(Clone, Copy)]
 pub struct Ran {
     pub status: u32,
     pub carried: u32,
@@ -22,12 +22,11 @@ fn reply_of(a: Answer) -> Reply
 {
     let next = a.next;
     let words = a.words;
-    let ended = a.ended;
     Reply {
         status: a.status,
         words,
         next: next.0 as u32,
-        ended,
+        ended: a.ended,
     }
 }
 

@@ -12,12 +12,10 @@ use super::waits::with_runner_waiting;
 use super::{Answer, Kernel, semaphore_in};
 use calls::held::Held;
 use calls::refusal;
-use calls::status::{SUCCESS, WAITING};
+use calls::status::{DELETED, SUCCESS, WAITING};
 use numbers::{MESSAGE_WORDS, SEMAPHORES, SemaphoreId, THREADS};
 use objects::semaphore::Semaphore;
-use reasons::{Counts, NO_WAITS};
 use scheduler::thread::Place;
-use waiting::ends::{By, ended};
 
 // The semaphores with another record for `n`.
 fn semaphores_with(
@@ -56,7 +54,7 @@ impl Kernel {
         let s = self.scheduler;
         let changed = semaphores_with(all, n, counting(count));
         self.semaphores = changed;
-        self.carried(s, SUCCESS, [0; MESSAGE_WORDS], NO_WAITS)
+        self.carried(s, SUCCESS, [0; MESSAGE_WORDS], 0)
     }
 
     pub(crate) fn semaphore_get(mut self, caller: u32, n: SemaphoreId, wait: u32) -> Answer
@@ -83,7 +81,7 @@ impl Kernel {
                 self.held[i] = h;
             }
         }
-        self.carried(s, status, [0; MESSAGE_WORDS], NO_WAITS)
+        self.carried(s, status, [0; MESSAGE_WORDS], 0)
     }
 
     // The first waiter is served, else the count goes up by one; a put at the largest count is refused.
@@ -97,20 +95,19 @@ impl Kernel {
             return self.refused(reason);
         }
         let mut s = self.scheduler;
-        let mut counts = NO_WAITS;
+        let mut ended: u32 = 0;
         let f = s.first_at(Place::semaphore(n));
         let i = f.0 as usize;
         if i < THREADS {
-            let e = ended(By::Give, [0; MESSAGE_WORDS]);
-            let h = e.held;
+            let h = Held::of(SUCCESS, [0; MESSAGE_WORDS]);
             self.held[i] = h;
             s = s.woken(f);
-            counts = Counts::of(e.reason, 1);
+            ended = 1;
         } else {
             let changed = semaphores_with(all, n, counting(x.count + 1));
             self.semaphores = changed;
         }
-        self.carried(s, SUCCESS, [0; MESSAGE_WORDS], counts)
+        self.carried(s, SUCCESS, [0; MESSAGE_WORDS], ended)
     }
 
     // A put that the ceiling does not forbid.
@@ -138,7 +135,7 @@ impl Kernel {
             s.prioritised(Place::semaphore(n)),
             SUCCESS,
             [0; MESSAGE_WORDS],
-            NO_WAITS,
+            0,
         )
     }
 
@@ -154,6 +151,6 @@ impl Kernel {
         let line = s.line_at(Place::semaphore(n));
         let changed = semaphores_with(all, n, Semaphore::none());
         self.semaphores = changed;
-        self.ended_each(line, By::Delete, [0; MESSAGE_WORDS])
+        self.ended_each(line, DELETED, [0; MESSAGE_WORDS])
     }
 }

@@ -1,6 +1,5 @@
 // Thread services.
-ghost use Rattle.std.specs.Prelude.{◌≡◌, eqb};
-ghost use Rattle.lines.specs.Logic.{if◌then◌else◌};
+ghost use Rattle.std.specs.Prelude.{if◌then◌else◌, ◌≡◌, eqb};
 ghost use Rattle.scheduler.specs.Threads.{ready, completed, suspended};
 ghost use Rattle.calls.specs.Chains.{create_refusal, delete_refusal, resume_refusal, suspend_refusal, terminate_refusal, reset_refusal, thread_only_refusal, abort_refusal, priority_refusal, preemption_refusal, read_refusal};
 ghost use Rattle.kernel.specs.Tables.{thread_of, runner_of};
@@ -12,11 +11,9 @@ use super::waits::with_runner_asleep;
 use super::{Answer, Kernel, held_in, two_words};
 use calls::held::Held;
 use calls::refusal;
-use calls::status::{SUCCESS, SUSPEND_LIFTED, WAITING};
+use calls::status::{SUCCESS, SUSPEND_LIFTED, WAIT_ABORTED, WAITING};
 use numbers::{MESSAGE_WORDS, THREADS, ThreadId};
-use reasons::{Counts, NO_WAITS};
 use scheduler::thread::{COMPLETED, READY, SUSPENDED, TERMINATED, Thread};
-use waiting::ends::{By, ended};
 
 fn start_state(start: u32) -> u8
     ensures { result ≡ (if eqb start 1 then ready else suspended) }
@@ -46,7 +43,7 @@ impl Kernel {
             Held::of(0, [0; MESSAGE_WORDS]),
             s.moved(t, th),
             SUCCESS,
-            NO_WAITS,
+            0,
         )
     }
 
@@ -63,7 +60,7 @@ impl Kernel {
             Held::of(0, [0; MESSAGE_WORDS]),
             s.moved(t, Thread::uncreated()),
             SUCCESS,
-            NO_WAITS,
+            0,
         )
     }
 
@@ -81,14 +78,14 @@ impl Kernel {
                 s.with_thread(t, th.with_suspension(false)),
                 SUSPEND_LIFTED,
                 [0; MESSAGE_WORDS],
-                NO_WAITS,
+                0,
             );
         }
         self.carried(
             s.moved(t, th.at_rest(READY)),
             SUCCESS,
             [0; MESSAGE_WORDS],
-            NO_WAITS,
+            0,
         )
     }
 
@@ -106,7 +103,7 @@ impl Kernel {
                 s.with_thread(t, th.with_suspension(true)),
                 SUCCESS,
                 [0; MESSAGE_WORDS],
-                NO_WAITS,
+                0,
             );
         }
         if th.is_ready() {
@@ -114,10 +111,10 @@ impl Kernel {
                 s.moved(t, th.at_rest(SUSPENDED)),
                 SUCCESS,
                 [0; MESSAGE_WORDS],
-                NO_WAITS,
+                0,
             );
         }
-        self.carried(s, SUCCESS, [0; MESSAGE_WORDS], NO_WAITS)
+        self.carried(s, SUCCESS, [0; MESSAGE_WORDS], 0)
     }
 
     pub(crate) fn thread_terminate(self, caller: u32, t: ThreadId) -> Answer
@@ -130,7 +127,7 @@ impl Kernel {
             return self.refused(reason);
         }
         if (th.state == COMPLETED) | (th.state == TERMINATED) {
-            return self.carried(s, SUCCESS, [0; MESSAGE_WORDS], NO_WAITS);
+            return self.carried(s, SUCCESS, [0; MESSAGE_WORDS], 0);
         }
         let ended = th.at_rest(TERMINATED);
         self.held_carried(
@@ -138,7 +135,7 @@ impl Kernel {
             Held::of(0, [0; MESSAGE_WORDS]),
             s.moved(t, ended),
             SUCCESS,
-            NO_WAITS,
+            0,
         )
     }
 
@@ -157,7 +154,7 @@ impl Kernel {
             Held::of(0, [0; MESSAGE_WORDS]),
             s.moved(t, fresh),
             SUCCESS,
-            NO_WAITS,
+            0,
         )
     }
 
@@ -177,7 +174,7 @@ impl Kernel {
             Held::of(0, [0; MESSAGE_WORDS]),
             s.moved(t, ended),
             SUCCESS,
-            NO_WAITS,
+            0,
         )
     }
 
@@ -196,7 +193,7 @@ impl Kernel {
             status: SUCCESS,
             words: [0; MESSAGE_WORDS],
             next,
-            ended: NO_WAITS,
+            ended: 0,
             kernel: self,
         }
     }
@@ -220,7 +217,7 @@ impl Kernel {
                 self.held[i] = h;
             }
         }
-        self.carried(s, status, [0; MESSAGE_WORDS], NO_WAITS)
+        self.carried(s, status, [0; MESSAGE_WORDS], 0)
     }
 
     pub(crate) fn thread_wait_abort(self, t: ThreadId) -> Answer
@@ -231,9 +228,13 @@ impl Kernel {
         if reason != 0 {
             return self.refused(reason);
         }
-        let e = ended(By::Abort, [0; MESSAGE_WORDS]);
-        let h = e.held;
-        self.held_carried(t, h, s.woken(t), SUCCESS, Counts::of(e.reason, 1))
+        self.held_carried(
+            t,
+            Held::of(WAIT_ABORTED, [0; MESSAGE_WORDS]),
+            s.woken(t),
+            SUCCESS,
+            1,
+        )
     }
 
     pub(crate) fn thread_priority_change(self, caller: u32, t: ThreadId, priority: u32) -> Answer
@@ -246,12 +247,7 @@ impl Kernel {
             return self.refused(reason);
         }
         let words = two_words(th.priority as u32, 0);
-        self.carried(
-            s.priority_changed(t, priority as u8),
-            SUCCESS,
-            words,
-            NO_WAITS,
-        )
+        self.carried(s.priority_changed(t, priority as u8), SUCCESS, words, 0)
     }
 
     pub(crate) fn thread_preemption_change(self, caller: u32, t: ThreadId, threshold: u32) -> Answer
@@ -264,12 +260,7 @@ impl Kernel {
             return self.refused(reason);
         }
         let words = two_words(th.threshold as u32, 0);
-        self.carried(
-            s.preemption_changed(t, threshold as u8),
-            SUCCESS,
-            words,
-            NO_WAITS,
-        )
+        self.carried(s.preemption_changed(t, threshold as u8), SUCCESS, words, 0)
     }
 
     // A thread's state and held status.
@@ -285,7 +276,7 @@ impl Kernel {
         let all = self.held;
         let h = held_in(all, t);
         let words = two_words(th.state as u32, h.status);
-        self.carried(s, SUCCESS, words, NO_WAITS)
+        self.carried(s, SUCCESS, words, 0)
     }
 
     // A thread's held words.
@@ -300,6 +291,6 @@ impl Kernel {
         let all = self.held;
         let h = held_in(all, t);
         let words = h.held_words();
-        self.carried(s, SUCCESS, words, NO_WAITS)
+        self.carried(s, SUCCESS, words, 0)
     }
 }

@@ -4,17 +4,16 @@ ghost use Rattle.scheduler.specs.Orders.{thread_at, joined, moved};
 ghost use Rattle.lines.specs.Lines.{members};
 ghost use Rattle.scheduler.specs.Threads.{asleep, in_state};
 ghost use Rattle.kernel.specs.Answers.{answer_of};
-ghost use Rattle.kernel.specs.Edits.{Cause, Matches, carried_out};
+ghost use Rattle.kernel.specs.Edits.{Cause, Holds, carried_out};
 ghost use Rattle.kernel.specs.Effects.{does, ends_each};
 
 use super::{Answer, Kernel};
+use calls::held::Held;
 use calls::status::SUCCESS;
 use lines::Line;
 use numbers::{MESSAGE_WORDS, THREADS, ThreadId};
-use reasons::Counts;
 use scheduler::Scheduler;
 use scheduler::thread::Place;
-use waiting::ends::{By, ended};
 
 // The scheduler after its running thread began to wait at a place.
 pub(crate) fn with_runner_waiting(s: Scheduler, front: bool, p: Place, ticks: u32) -> Scheduler
@@ -35,14 +34,18 @@ pub(crate) fn with_runner_asleep(s: Scheduler, ticks: u32) -> Scheduler
 }
 
 impl Kernel {
-    // The waits of all in the line end in one way and with words, in order, and the call is done.
-    pub(crate) fn ended_each(mut self, line: Line, by: By, words: [u32; MESSAGE_WORDS]) -> Answer
-        ensures { (c : Cause) → Matches c by → result ≡ answer_of (carried_out self (does (ends_each c words (members line)))) }
+    // The waits of all in the line end with a status and words, in order, and the call is done.
+    pub(crate) fn ended_each(
+        mut self,
+        line: Line,
+        status: u32,
+        words: [u32; MESSAGE_WORDS],
+    ) -> Answer
+        ensures { (c : Cause) → Holds c status → result ≡ answer_of (carried_out self (does (ends_each c words (members line)))) }
     {
         let ids = line.ids;
         let n = line.size() as usize;
-        let e = ended(by, words);
-        let h = e.held;
+        let h = Held::of(status, words);
         let mut s = self.scheduler;
         let mut i: usize = 0;
         while i < n {
@@ -54,11 +57,6 @@ impl Kernel {
                 self.held[t] = h;
             }
         }
-        self.carried(
-            s,
-            SUCCESS,
-            [0; MESSAGE_WORDS],
-            Counts::of(e.reason, n as u32),
-        )
+        self.carried(s, SUCCESS, [0; MESSAGE_WORDS], n as u32)
     }
 }

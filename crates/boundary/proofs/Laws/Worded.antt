@@ -8,7 +8,7 @@ use native.Mathlib.Omega.{arith}
 use lib.ListN.{length}
 use Rattle.numbers.specs.Numbers.{threads, message_words, slots}
 use Rattle.lines.specs.Lines.{pad, line_of}
-use Rattle.lines.specs.Logic.{if◌then◌else◌}
+use Rattle.std.specs.Prelude.{if◌then◌else◌}
 use Rattle.lines.proofs.Laws.Lines.{length-pad}
 use Rattle.lines.proofs.Laws.Logic.{by_choice}
 use Rattle.scheduler.specs.declared.thread.Thread.{Thread}

@@ -21,7 +21,7 @@ use Rattle.kernel.specs.Tables.{with_scheduler}
 use Rattle.kernel.specs.Kinds.{Kind, Object, size_of, state_on, place_of, object_at, createdb}
 use Rattle.kernel.specs.Kinds.Kind.{semaphore, queue, group, pool}
 use Rattle.kernel.specs.Sound.{Fit, Sound}
-use Rattle.kernel.specs.Edits.{Move, Edit, edited, applied, counted, startsb, sameb, Success, status_of, Effect, carried_out}
+use Rattle.kernel.specs.Edits.{Move, Edit, edited, applied, startsb, sameb, Success, status_of, Effect, carried_out}
 use Rattle.kernel.specs.Edits.Cause.{served, deleted, timed_out, aborted}
 use Rattle.kernel.specs.Edits.Move.{ends, starts, stops, turns}
 use Rattle.kernel.specs.Edits.Edit.{moves, alters, counts, ranks, stores, sets}

@@ -7,7 +7,8 @@ use native.Mathlib.Omega.{arith}
 use lib.Dec.{eqb}
 use lib.Seq.{get_or-set_same}
 use borrow.Author.Tests.{eqb-true, eq-eqb, ne_eqb, ltb-true}
-use Rattle.lines.specs.Logic.{if◌then◌else◌, one_if}
+use Rattle.std.specs.Prelude.{if◌then◌else◌}
+use Rattle.lines.specs.Logic.{one_if}
 use Rattle.lines.specs.Lists.{count, first, Begins}
 use Rattle.lines.proofs.Laws.Logic.{by_test, by_eq, by_choice, and_left, and_right, or-rest}
 use Rattle.lines.proofs.Laws.Lists

@@ -6,7 +6,8 @@ use Prim.Native.Nat.{ℕ, ◌<◌}
 use native.Mathlib.Omega.{arith}
 use lib.Dec.{eqb}
 use borrow.Author.Tests.{eqb-true, ltb-true, eq-eqb}
-use Rattle.lines.specs.Logic.{if◌then◌else◌, implies}
+use Rattle.std.specs.Prelude.{if◌then◌else◌}
+use Rattle.lines.specs.Logic.{implies}
 use Rattle.lines.specs.Lists.{count, without, less}
 use Rattle.lines.proofs.Laws.Logic.{by_test, by_eq, by_choice, never, and_left, and_right, and_in, or-rest}
 use Rattle.lines.proofs.Laws.Lists

@@ -4,7 +4,7 @@ use mathlib.Core.List.{List}
 use mathlib.Core.Bool.{Bool, true, false, not}
 use Prim.Native.Nat.{ℕ}
 use lib.Dec.{eqb}
-use Rattle.lines.specs.Logic.{if◌then◌else◌}
+use Rattle.std.specs.Prelude.{if◌then◌else◌}
 use Rattle.lines.proofs.Laws.Logic.{by_choice}
 use Rattle.scheduler.specs.Orders.{line_at}
 use Rattle.scheduler.proofs.Laws.Choosing

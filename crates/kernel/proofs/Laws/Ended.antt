@@ -8,7 +8,8 @@ use native.Mathlib.Omega.{arith}
 use lib.ListN.{length}
 use lib.Dec.{eqb, ltb}
 use borrow.Author.Tests.{eqb-true, eq-eqb, ltb-true, ltb-false}
-use Rattle.lines.specs.Logic.{if◌then◌else◌, one_if}
+use Rattle.std.specs.Prelude.{if◌then◌else◌}
+use Rattle.lines.specs.Logic.{one_if}
 use Rattle.lines.specs.Lists.{numbers_from, filter, without, count}
 use Rattle.lines.proofs.Laws.Logic.{by_test, by_eq, never, and_left, and_right, and_in, or-rest}
 use Rattle.lines.proofs.Laws.Lists
@@ -176,7 +177,7 @@ last_rows : LastRows
 unfolding last_reason refusals
 last_rows = record { send = refl; receive = refl; instance = refl; flags = refl; block = refl }
 
--- the status of a time_out is that of the last row for what was waited for
+-- the status of a time-out is that of the last row for what was waited for
 timeout-row : (th : Thread) (h : Held) → (if eqb th.state asleep then Statuses.success else last_reason refusals (wait_call th h)) ≡ timeout_status th h
 unfolding timeout_status wait_call
 timeout-row th h =

@@ -9,7 +9,8 @@ use lib.ListN.{length, length-set}
 use lib.Seq.{get_or-set_same, get_or-set_other}
 use lib.Dec.{eqb, ltb}
 use borrow.Author.Tests.{eqb-true, eqb-false, lt-ltb, ltb-true, ltb-false, ne_eqb}
-use Rattle.lines.specs.Logic.{if◌then◌else◌, one_if, implies}
+use Rattle.std.specs.Prelude.{if◌then◌else◌}
+use Rattle.lines.specs.Logic.{one_if, implies}
 use Rattle.lines.specs.Lists.{count}
 use Rattle.lines.proofs.Laws.Logic.{by_test, by_eq, by_choice, never, and_left, and_right, and_in, or_left, implies_in}
 use Rattle.scheduler.specs.declared.thread.Thread.{Thread}

@@ -5,7 +5,8 @@ use mathlib.Core.Bool.{Bool, true, false, not}
 use Prim.Native.Nat.{ℕ, ◌<◌}
 use lib.Dec.{eqb}
 use borrow.Author.Tests.{eqb-true, eq-eqb, not-true}
-use Rattle.lines.specs.Logic.{if◌then◌else◌, one_if}
+use Rattle.std.specs.Prelude.{if◌then◌else◌}
+use Rattle.lines.specs.Logic.{one_if}
 use Rattle.lines.specs.Lists.{without, only_if, prioritised, less}
 use Rattle.lines.proofs.Laws.Logic.{by_test, by_choice, never, and_left, and_right, and_in}
 use Rattle.lines.proofs.Laws.Lists

@@ -7,7 +7,7 @@ use native.Mathlib.Omega.{arith}
 use lib.Dec.{eqb, ltb, leb}
 use lib.ListN.{length}
 use borrow.Author.Tests.{eqb-false, ltb-true, ltb-false, le-leb, lt-leb, ne_eqb, eq-eqb, not-true}
-use Rattle.lines.specs.Logic.{if◌then◌else◌}
+use Rattle.std.specs.Prelude.{if◌then◌else◌}
 use Rattle.lines.proofs.Laws.Logic.{by_test, by_choice, and_left, and_right}
 use Rattle.scheduler.specs.Threads.{finishedb}
 use Rattle.calls.specs.Callers.{allowedb}

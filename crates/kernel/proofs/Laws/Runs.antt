@@ -13,7 +13,7 @@ use Rattle.calls.specs.declared.call.Request.{Request}
 use Rattle.tape.specs.Tapes.{no_request, count_of, record_at, records_of}
 use Rattle.tape.proofs.Laws.Tapes.{length_records, record_in}
 use Rattle.kernel.specs.declared.Kernel.{Kernel}
-use Rattle.lines.specs.Logic.{if◌then◌else◌}
+use Rattle.std.specs.Prelude.{if◌then◌else◌}
 use Rattle.numbers.specs.Numbers.{nobody}
 use Rattle.calls.specs.Statuses as Statuses
 use mathlib.Core.Bool.{Bool, false}

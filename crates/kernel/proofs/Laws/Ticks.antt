@@ -10,7 +10,8 @@ use lib.ListN.{length, length-append, get_or-eq_default}
 use lib.Seq.{get_or-set_same, get_or-set_other, set-set, set_comm}
 use lib.Dec.{ltb}
 use borrow.Author.Tests.{ltb-true, ltb-false}
-use Rattle.lines.specs.Logic.{if◌then◌else◌, one_if}
+use Rattle.std.specs.Prelude.{if◌then◌else◌}
+use Rattle.lines.specs.Logic.{one_if}
 use Rattle.lines.specs.Lists.{numbers_from, filter, count, only_if}
 use Rattle.lines.proofs.Laws.Logic.{by_test, by_eq, by_choice, never}
 use Rattle.lines.proofs.Laws.Lists

@@ -26,7 +26,7 @@ use Rattle.kernel.specs.Tables.{thread_of, runner_of, held_at}
 use Rattle.kernel.specs.Kinds.{Kind, Object, size_of, state_on, place_of, object_at, no_object, createdb, record_fitb, waitb}
 use Rattle.kernel.specs.Kinds.Kind.{semaphore, queue, group, pool}
 use Rattle.kernel.specs.Sound.{Fit, Sound}
-use Rattle.kernel.specs.Edits.{Cause, counted, Effect}
+use Rattle.kernel.specs.Edits.{Cause, Effect}
 use Rattle.kernel.specs.Edits.Cause.{served, deleted}
 use Rattle.kernel.specs.Edits.Move.{ends}
 use Rattle.kernel.specs.Edits.Edit.{ranks, stores}

@@ -13,7 +13,7 @@ use Rattle.lines.specs.Lists.{count, filter}
 use Rattle.lines.proofs.Laws.Logic.{by_test, by_choice, never, and_right, and_in}
 use Rattle.lines.proofs.Laws.Lists
 use Rattle.scheduler.specs.Threads.{placedb}
-use Rattle.scheduler.specs.Orders.{line_at, woken}
+use Rattle.scheduler.specs.Orders.{line_at}
 use Rattle.scheduler.proofs.Laws.Orders
 use Rattle.calls.specs.declared.held.Held.{Held}
 use Rattle.calls.specs.Held.{no_words, one_word, requesting}
@@ -29,7 +29,6 @@ use Rattle.kernel.specs.Kinds.{place_of}
 use Rattle.kernel.specs.Kinds.Kind.{group}
 use Rattle.kernel.specs.Sound.{Sound}
 use Rattle.kernel.specs.Edits.Cause.{served}
-use Rattle.kernel.specs.Edits.Success.{waits}
 use Rattle.kernel.specs.Roles.{may_moveb, mayb}
 use Rattle.kernel.specs.Effects.{store_effect, remove_effect}
 use Rattle.kernel.specs.Groups.{woken_by, clears_by, set_or_effect, set_effect, flags_get_effect}

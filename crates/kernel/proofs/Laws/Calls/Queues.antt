@@ -8,7 +8,8 @@ use native.Mathlib.Omega.{arith}
 use lib.ListN.{length, take, drop, length-take, get_or, get_or-eq_default}
 use lib.Dec.{eqb, ltb}
 use borrow.Author.Tests.{ltb-false, eq-eqb}
-use Rattle.lines.specs.Logic.{if◌then◌else◌, implies}
+use Rattle.std.specs.Prelude.{if◌then◌else◌}
+use Rattle.lines.specs.Logic.{implies}
 use Rattle.lines.specs.Lines.{pad}
 use Rattle.lines.specs.Lists.{count}
 use Rattle.lines.proofs.Laws.Logic.{by_test, by_choice, never, and_left, and_right, and_in, or_left, or_right, all_in}
@@ -33,7 +34,6 @@ use Rattle.kernel.specs.Sound.{Sound}
 use Rattle.kernel.specs.Edits.Cause.{served}
 use Rattle.kernel.specs.Edits.Move.{ends, starts}
 use Rattle.kernel.specs.Edits.Edit.{stores}
-use Rattle.kernel.specs.Edits.Success.{waits}
 use Rattle.kernel.specs.Roles.{may_moveb, mayb}
 use Rattle.kernel.specs.Effects.{store_effect, remove_effect, rank_effect, waitedb, serve_effect, give_effect}
 use Rattle.kernel.specs.Queues.{send_effect, past_effect, receive_effect, flush_effect}

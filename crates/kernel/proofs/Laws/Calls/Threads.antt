@@ -7,7 +7,8 @@ use Prim.{tt}
 use native.Mathlib.Omega.{arith}
 use lib.Dec.{eqb, ltb, leb}
 use borrow.Author.Tests.{ltb-true, leb-true, eqb-true, eqb-false, eq-eqb}
-use Rattle.lines.specs.Logic.{if◌then◌else◌, implies}
+use Rattle.std.specs.Prelude.{if◌then◌else◌}
+use Rattle.lines.specs.Logic.{implies}
 use Rattle.lines.proofs.Laws.Logic.{by_test, by_choice, never, and_left, and_right, or-rest}
 use Rattle.scheduler.specs.declared.thread.Thread.{Thread}
 use Rattle.scheduler.specs.declared.thread.Place.{Place}

@@ -1,0 +1,83 @@
+use Rattle.codec.specs.State.{thread_flagsb}
+use Rattle.codec.proofs.Laws.Flags.{tests}
+use Rattle.codec.proofs.flags.threads_fit.Goals as goal
+
+pub loop-i-init : goal.loop-i-init
+unfolding thread_flagsb
+loop-i-init c = search tests
+
+pub overflow_mul-i : goal.overflow_mul-i
+unfolding thread_flagsb
+overflow_mul-i c = search tests
+
+pub overflow_add-i : goal.overflow_add-i
+unfolding thread_flagsb
+overflow_add-i c = search tests
+
+pub is_flag-requires : goal.is_flag-requires
+unfolding thread_flagsb
+is_flag-requires c = search tests
+
+pub overflow_mul-i-in-loop-i : goal.overflow_mul-i-in-loop-i
+unfolding thread_flagsb
+overflow_mul-i-in-loop-i c = search tests
+
+pub overflow_add-i-in-loop-i : goal.overflow_add-i-in-loop-i
+unfolding thread_flagsb
+overflow_add-i-in-loop-i c = search tests
+
+pub is_flag-requires-in-loop-i : goal.is_flag-requires-in-loop-i
+unfolding thread_flagsb
+is_flag-requires-in-loop-i c = search tests
+
+pub overflow_mul-i-in-loop-i-2 : goal.overflow_mul-i-in-loop-i-2
+unfolding thread_flagsb
+overflow_mul-i-in-loop-i-2 c = search tests
+
+pub overflow_add-i-in-loop-i-2 : goal.overflow_add-i-in-loop-i-2
+unfolding thread_flagsb
+overflow_add-i-in-loop-i-2 c = search tests
+
+pub is_flag-requires-in-loop-i-2 : goal.is_flag-requires-in-loop-i-2
+unfolding thread_flagsb
+is_flag-requires-in-loop-i-2 c = search tests
+
+pub overflow_mul-i-in-loop-i-3 : goal.overflow_mul-i-in-loop-i-3
+unfolding thread_flagsb
+overflow_mul-i-in-loop-i-3 c = search tests
+
+pub overflow_add-i-in-loop-i-3 : goal.overflow_add-i-in-loop-i-3
+unfolding thread_flagsb
+overflow_add-i-in-loop-i-3 c = search tests
+
+pub is_flag-requires-in-loop-i-3 : goal.is_flag-requires-in-loop-i-3
+unfolding thread_flagsb
+is_flag-requires-in-loop-i-3 c = search tests
+
+pub overflow_mul-i-in-loop-i-4 : goal.overflow_mul-i-in-loop-i-4
+unfolding thread_flagsb
+overflow_mul-i-in-loop-i-4 c = search tests
+
+pub overflow_add-i-in-loop-i-4 : goal.overflow_add-i-in-loop-i-4
+unfolding thread_flagsb
+overflow_add-i-in-loop-i-4 c = search tests
+
+pub is_flag-requires-in-loop-i-4 : goal.is_flag-requires-in-loop-i-4
+unfolding thread_flagsb
+is_flag-requires-in-loop-i-4 c = search tests
+
+pub overflow_add-i-in-loop-i-5 : goal.overflow_add-i-in-loop-i-5
+unfolding thread_flagsb
+overflow_add-i-in-loop-i-5 c = search tests
+
+pub loop-i-smaller : goal.loop-i-smaller
+unfolding thread_flagsb
+loop-i-smaller c = search tests
+
+pub loop-i-preserved : goal.loop-i-preserved
+unfolding thread_flagsb
+loop-i-preserved c = search tests
+
+pub returns : goal.returns
+unfolding thread_flagsb
+returns c = search tests
