@@ -1,15 +1,13 @@
 -- What the program `inspect` prints of a tape: the tables before the first call, and for each call the call itself, its result and the tables
 -- after it.
-use Rattle.std.specs.Prelude.{List, ◌++◌, ℕ}
+use Rattle.std.specs.Prelude.{if◌then◌else◌, List, ◌++◌, ℕ}
 use Prim.Native.Char.{code}
-use Rattle.lines.specs.Logic.{if◌then◌else◌}
-use Rattle.reasons.specs.declared.Counts.{Counts}
 use Rattle.calls.specs.declared.call.Request.{Request}
 use Rattle.tape.specs.Tapes.{refusedb, records_of, messages_of}
 use Rattle.kernel.specs.declared.Answer.{Answer}
 use Rattle.kernel.specs.Tables.{started}
 use Rattle.output.specs.Texts.{ascii}
-use Rattle.text.specs.Texts.{field_text, thread_text, counts_text, separated, refused_text}
+use Rattle.text.specs.Texts.{field_text, thread_text, separated, refused_text}
 use Rattle.text.specs.Records.{records_text}
 use Rattle.inspect.specs.Tables.{tables_text}
 
@@ -23,12 +21,12 @@ unfoldable pub call_text : ℕ → Request → List ℕ
 call_text i r =
     field_text (ascii "call ") i ++ field_text (ascii " ") r.number ++ field_text (ascii " ") r.caller ++ arguments_text r ++ ascii "\n"
 
--- a call's status, the next thread or `-`, and its ended waits by reason
-unfoldable pub answer_text : ℕ → ℕ → Counts → List ℕ
-answer_text status next ended = field_text (ascii "result ") status ++ ascii " " ++ thread_text next ++ counts_text ended
+-- a call's status, the next thread or `-`, and its ended waits
+unfoldable pub answer_text : ℕ → ℕ → ℕ → List ℕ
+answer_text status next ended = field_text (ascii "result ") status ++ ascii " " ++ thread_text next ++ field_text (ascii " ") ended
 
 -- the same, and the words that it gave
-unfoldable pub result_text : ℕ → ℕ → Counts → List ℕ → List ℕ
+unfoldable pub result_text : ℕ → ℕ → ℕ → List ℕ → List ℕ
 result_text status next ended words = answer_text status next ended ++ ascii " " ++ separated (code " ") words ++ ascii "\n"
 
 -- record i, its answer, and the tables that it left

@@ -12,17 +12,18 @@ use text::thread_table::{put_orders, put_threads};
 use text::{put_field, put_thread};
 
 // The clock and who runs.
-fn put_start(buf: &mut [u8], at: usize, clock: u32, running: ThreadId) -> usize
+fn put_start(out: &impl Print, buf: &mut [u8], at: usize, clock: u32, running: ThreadId) -> usize
     ensures { Put buf.old at (start_text clock running.0) buf.new result }
 {
-    let at = put_field(buf, at, b"clock ", clock);
-    let at = put_text(buf, at, b"\nrunning ");
-    let at = put_thread(buf, at, running);
-    put_byte(buf, at, b'\n')
+    let at = put_field(out, buf, at, b"clock ", clock);
+    let at = put_text(out, buf, at, b"\nrunning ");
+    let at = put_thread(out, buf, at, running);
+    put_byte(out, buf, at, b'\n')
 }
 
 // The threads and the orders of the ready ones.
 fn put_scheduler(
+    out: &impl Print,
     buf: &mut [u8],
     at: usize,
     clock: u32,
@@ -32,12 +33,12 @@ fn put_scheduler(
     ensures { Put buf.old at (scheduler_text clock s held) buf.new result }
 {
     let threads = s.threads;
-    let at = put_start(buf, at, clock, s.running);
-    let at = put_threads(buf, at, threads, held);
-    put_orders(buf, at, s)
+    let at = put_start(out, buf, at, clock, s.running);
+    let at = put_threads(out, buf, at, threads, held);
+    put_orders(out, buf, at, s)
 }
 
-pub fn put_tables(buf: &mut [u8], at: usize, k: Kernel) -> usize
+pub fn put_tables(out: &impl Print, buf: &mut [u8], at: usize, k: Kernel) -> usize
     ensures { Put buf.old at (tables_text k) buf.new result }
 {
     let s = k.scheduler;
@@ -46,10 +47,10 @@ pub fn put_tables(buf: &mut [u8], at: usize, k: Kernel) -> usize
     let queues = k.queues;
     let groups = k.groups;
     let pools = k.pools;
-    let at = put_scheduler(buf, at, k.clock, s, held);
-    let at = put_semaphores(buf, at, semaphores, s);
-    let at = put_queues(buf, at, queues, s);
-    let at = put_groups(buf, at, groups, s);
-    let at = put_pools(buf, at, pools, s);
-    put_text(buf, at, b".\n")
+    let at = put_scheduler(out, buf, at, k.clock, s, held);
+    let at = put_semaphores(out, buf, at, semaphores, s);
+    let at = put_queues(out, buf, at, queues, s);
+    let at = put_groups(out, buf, at, groups, s);
+    let at = put_pools(out, buf, at, pools, s);
+    put_text(out, buf, at, b".\n")
 }

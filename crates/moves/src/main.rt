@@ -1,5 +1,8 @@
 // Moves and choices, step by step: after each, who runs and who stands, each as number/priority with * for a mark,
 // w for a waiter, in the order of joining; at the end the verdicts of the soundness test on damaged tables.
+
+#![tactic(auto)]
+
 use numbers::{NOBODY, SemaphoreId, ThreadId};
 use scheduler::Scheduler;
 use scheduler::thread::{Place, Thread};
@@ -44,28 +47,33 @@ fn finished(priority: u8) -> Thread {
     }
 }
 
-fn print(text: &[u8]) {
-    io::write_all(1, text);
+// A write that fails is not reported.
+fn print(out: &impl Print, text: &[u8]) {
+    let _ = out.write_all(text);
 }
 
-fn print_thread(t: u8, th: Thread) {
-    print(b" ");
-    io::print_decimal(1, t as u64);
-    print(b"/");
-    io::print_decimal(1, th.priority as u64);
+fn print_decimal(out: &impl Print, n: u64) {
+    let _ = out.print(n);
+}
+
+fn print_thread(out: &impl Print, t: u8, th: Thread) {
+    print(out, b" ");
+    print_decimal(out, t as u64);
+    print(out, b"/");
+    print_decimal(out, th.priority as u64);
     if th.marked {
-        print(b"*");
+        print(out, b"*");
     }
     if th.is_waiting() {
-        print(b"w");
+        print(out, b"w");
     }
 }
 
-fn show(what: &[u8], s: Scheduler) -> Scheduler {
-    print(what);
-    print(b": runs ");
-    io::print_decimal(1, s.running.0 as u64);
-    print(b", stand");
+fn show(out: &impl Print, what: &[u8], s: Scheduler) -> Scheduler {
+    print(out, what);
+    print(out, b": runs ");
+    print_decimal(out, s.running.0 as u64);
+    print(out, b", stand");
     let o = s.order;
     let ids = o.ids;
     let n = o.size() as usize;
@@ -73,99 +81,103 @@ fn show(what: &[u8], s: Scheduler) -> Scheduler {
     while i < n {
         let t = ThreadId(ids[i]);
         let th = s.thread_at(t);
-        print_thread(t.0, th);
+        print_thread(out, t.0, th);
         i += 1;
     }
-    print(b"\n");
+    print(out, b"\n");
     s
 }
 
 // Thread `t` gets a record, and the choice is made.
-fn step(what: &[u8], s: Scheduler, t: u8, th: Thread) -> Scheduler {
-    show(what, s.moved(ThreadId(t), th).rescheduled(false))
+fn step(out: &impl Print, what: &[u8], s: Scheduler, t: u8, th: Thread) -> Scheduler {
+    show(out, what, s.moved(ThreadId(t), th).rescheduled(false))
 }
 
-fn verdict(what: &[u8], s: Scheduler) {
-    print(what);
+fn verdict(out: &impl Print, what: &[u8], s: Scheduler) {
+    print(out, what);
     if s.is_sound() {
-        print(b": sound\n");
+        print(out, b": sound\n");
     } else {
-        print(b": unsound\n");
+        print(out, b": unsound\n");
     }
 }
 
 // The interrupted threshold: case P3.
-fn interrupted() -> Scheduler {
+fn interrupted(out: &impl Print) -> Scheduler {
     let a = step(
+        out,
         b"0 of priority 10, threshold 5 starts",
         Scheduler::start(),
         0,
         ready(10, 5),
     );
-    let b = step(b"1 of priority 7 resumed", a, 1, ready(7, 7));
-    let c = step(b"2 of priority 4 resumed", b, 2, ready(4, 4));
-    step(b"2 finishes", c, 2, finished(4))
+    let b = step(out, b"1 of priority 7 resumed", a, 1, ready(7, 7));
+    let c = step(out, b"2 of priority 4 resumed", b, 2, ready(4, 4));
+    step(out, b"2 finishes", c, 2, finished(4))
 }
 
 // Waiters, served from the front, and prioritise.
-fn waiters(s: Scheduler) -> Scheduler {
-    let a = step(b"3 waits", s, 3, waiting(20, 9));
-    let b = step(b"4 waits", a, 4, waiting(5, 9));
-    let c = step(b"5 waits", b, 5, waiting(5, 9));
+fn waiters(out: &impl Print, s: Scheduler) -> Scheduler {
+    let a = step(out, b"3 waits", s, 3, waiting(20, 9));
+    let b = step(out, b"4 waits", a, 4, waiting(5, 9));
+    let c = step(out, b"5 waits", b, 5, waiting(5, 9));
     let place = Place::semaphore(SemaphoreId(3));
-    let d = show(b"prioritise", c.prioritised(place));
+    let d = show(out, b"prioritise", c.prioritised(place));
     let f = d.first_at(place);
-    let e = step(b"the first is served", d, f.0, ready(5, 5));
+    let e = step(out, b"the first is served", d, f.0, ready(5, 5));
     let g = show(
+        out,
         b"0 moves to the front of its order",
         e.moved_front(ThreadId(0), ready(10, 5)).rescheduled(false),
     );
-    let h = show(b"the runner relinquishes", g.relinquished());
+    let h = show(out, b"the runner relinquishes", g.relinquished());
     let k = show(
+        out,
         b"priority change of 3, which waits",
         h.priority_changed(ThreadId(3), 2).rescheduled(false),
     );
     show(
+        out,
         b"preemption change of 0",
         k.preemption_changed(ThreadId(0), 10).rescheduled(false),
     )
 }
 
 // The test refuses damage of every kind.
-fn damaged(s: Scheduler) {
-    verdict(b"as it is", s);
+fn damaged(out: &impl Print, s: Scheduler) {
+    verdict(out, b"as it is", s);
     let mut slot = s;
     let mut o = s.order;
     o.ids[31] = 1;
     slot.order = o;
-    verdict(b"a slot behind the line not zero", slot);
+    verdict(out, b"a slot behind the line not zero", slot);
     let mut twice = s;
     let mut l = s.order;
     l.ids[1] = 1;
     twice.order = l;
-    verdict(b"a thread twice in the line", twice);
+    verdict(out, b"a thread twice in the line", twice);
     let mut marked = s;
     marked.threads[3].marked = true;
-    verdict(b"a waiter marked", marked);
+    verdict(out, b"a waiter marked", marked);
     let mut timeless = s;
     timeless.threads[3].ticks = 0;
-    verdict(b"a wait with no tick left", timeless);
+    verdict(out, b"a wait with no tick left", timeless);
     let mut held = s;
     held.threads[1].suspending = true;
-    verdict(b"a ready thread with a held suspension", held);
+    verdict(out, b"a ready thread with a held suspension", held);
     let mut level = s;
     level.threads[1].threshold = 30;
-    verdict(b"a threshold over its priority", level);
+    verdict(out, b"a threshold over its priority", level);
     let mut unused = s;
     unused.threads[30].ticks = 1;
-    verdict(b"an uncreated record not zero", unused);
+    verdict(out, b"an uncreated record not zero", unused);
     let mut idle = s;
     let nobody = ThreadId(NOBODY);
     idle.running = nobody;
-    verdict(b"nobody runs while somebody is ready", idle);
+    verdict(out, b"nobody runs while somebody is ready", idle);
 }
 
-fn main() {
-    let s = waiters(interrupted());
-    damaged(s);
+fn main(rt: HostRuntime) {
+    let s = waiters(&rt, interrupted(&rt));
+    damaged(&rt, s);
 }

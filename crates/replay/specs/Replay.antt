@@ -1,18 +1,16 @@
 -- What the program `replay` prints of a tape (rule 11.6).
-use Rattle.std.specs.Prelude.{List, ◌++◌, ℕ, length}
-use Rattle.lines.specs.Logic.{if◌then◌else◌}
-use Rattle.reasons.specs.declared.Counts.{Counts}
+use Rattle.std.specs.Prelude.{if◌then◌else◌, List, ◌++◌, ℕ, length}
 use Rattle.calls.specs.declared.call.Request.{Request}
 use Rattle.tape.specs.Tapes.{refusedb, records_of, messages_of}
 use Rattle.kernel.specs.declared.Answer.{Answer}
 use Rattle.kernel.specs.Tables.{started}
 use Rattle.output.specs.Texts.{ascii, decimal_of}
-use Rattle.text.specs.Texts.{field_text, thread_text, counts_text, refused_text}
+use Rattle.text.specs.Texts.{field_text, thread_text, refused_text}
 use Rattle.text.specs.Records.{records_text}
 
--- rule 11.6: the line of a record: its status, the next thread or `-`, and its ended waits by reason
-unfoldable pub record_text : ℕ → ℕ → Counts → List ℕ
-record_text status next ended = decimal_of status ++ ascii " " ++ thread_text next ++ counts_text ended ++ ascii "\n"
+-- rule 11.6: the line of a record: its status, the next thread or `-`, and its ended waits
+unfoldable pub record_text : ℕ → ℕ → ℕ → List ℕ
+record_text status next ended = decimal_of status ++ ascii " " ++ thread_text next ++ field_text (ascii " ") ended ++ ascii "\n"
 
 -- rule 11.6: the line of a record by its answer
 unfoldable pub answer_text : Answer → List ℕ

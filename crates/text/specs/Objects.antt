@@ -1,7 +1,6 @@
 -- Objects and the orders of their waiters as text: each created object has a line, with its number, its sizes, what it holds and who waits.
-use Rattle.std.specs.Prelude.{List, [], ◌∷◌, ◌++◌, Bool, ◌&&◌, ℕ, ◌%◌, eqb, ltb}
+use Rattle.std.specs.Prelude.{if◌then◌else◌, List, [], ◌++◌, ◌&&◌, ℕ, ◌%◌, eqb, ltb}
 use Prim.Native.Char.{code}
-use Rattle.lines.specs.Logic.{if◌then◌else◌}
 use Rattle.scheduler.specs.declared.Scheduler.{Scheduler}
 use Rattle.scheduler.specs.Threads.{on_queue, on_semaphore, on_flags, on_block, waiters_at}
 use Rattle.scheduler.specs.Orders.{line_at}

@@ -1,9 +1,7 @@
 -- The pieces of text that the programs print: fields, threads, lists and lines, as ASCII bytes.
-use Rattle.std.specs.Prelude.{List, [], ◌∷◌, ◌++◌, ℕ, zero, suc, eqb, ltb}
+use Rattle.std.specs.Prelude.{if◌then◌else◌, List, [], ◌∷◌, ◌++◌, ℕ, suc, eqb, ltb}
 use Prim.Native.Char.{code}
 use Rattle.numbers.specs.Numbers.{nobody}
-use Rattle.lines.specs.Logic.{if◌then◌else◌}
-use Rattle.reasons.specs.declared.Counts.{Counts}
 use Rattle.calls.specs.Statuses as Statuses
 use Rattle.output.specs.Texts.{ascii, decimal_of}
 
@@ -14,11 +12,6 @@ field_text label n = label ++ decimal_of n
 -- rule 11.6: a thread's number, `-` for nobody
 unfoldable pub thread_text : ℕ → List ℕ
 thread_text t = if ltb t nobody then decimal_of t else ascii "-"
-
--- rule 11.6: the waits that a call has ended, by reason, each count behind a space
-unfoldable pub counts_text : Counts → List ℕ
-counts_text n =
-    field_text (ascii " ") n.served ++ field_text (ascii " ") n.timeouts ++ field_text (ascii " ") n.aborted ++ field_text (ascii " ") n.deleted
 
 -- ---- lists
 -- the texts of all items of a list, each with its number, that of the first being i

@@ -1,8 +1,8 @@
 -- Threads and the orders of the ready ones as text.
-use Rattle.std.specs.Prelude.{List, [], ◌++◌, ℕ, length, get_or, eqb}
+use Rattle.std.specs.Prelude.{if◌then◌else◌, List, [], ◌++◌, ℕ, length, get_or, eqb}
 use Prim.Native.Char.{code}
 use Rattle.numbers.specs.Numbers.{priorities}
-use Rattle.lines.specs.Logic.{if◌then◌else◌, one_if}
+use Rattle.lines.specs.Logic.{one_if}
 use Rattle.lines.specs.Lists.{numbers_from}
 use Rattle.scheduler.specs.declared.thread.Thread.{Thread}
 use Rattle.scheduler.specs.declared.Scheduler.{Scheduler}

@@ -1,28 +1,117 @@
 // Where a program reads its tape from.
-use libc::STDIN_FILENO;
+ghost use Rattle.std.specs.Prelude.{◌≤◌, length};
 
-// The descriptor of the file that the first argument names, or of standard input where there is no argument. Where the file cannot be read,
-// standard error says why, and the answer is negative.
-pub fn open() -> i32 {
-    if os::arg_count() < 2 {
-        return STDIN_FILENO;
-    }
-    let mut path = io::buffer();
-    let n = os::arg(1, &mut path);
-    if os::errno() != 0 {
-        os::fail(b"the tape's name");
-        return -1;
-    }
-    let fd = os::open_read(&path[..n]);
-    if is_readable(fd) {
-        return fd;
-    }
-    os::fail(&path[..n]);
-    -1
+use std::env::FillError;
+use std::io::{Error, ErrorKind, Read};
+use std::rt::{Env, Files};
+use std::{fs, str};
+
+// The most bytes that a program reads of its tape. A tape that is not refused has at most 65,168.
+pub const MOST_BYTES: usize = 65536;
+
+// The most bytes of a path, and the system's error for a longer one.
+const MOST_PATH_BYTES: usize = 4096;
+
+const NAME_TOO_LONG: i32 = 36;
+
+// What a tape is read from.
+#[derive(Drop)]
+pub enum Source<I, F> {
+    StandardInput(I),
+    NamedFile(F),
 }
 
-// Whether the descriptor can be read: a directory can be opened, and not read.
-fn is_readable(fd: i32) -> bool {
+impl<I: Read, F: Read> Source<I, F> {
+    // Reads until the buffer is full, the input ends or a read fails, and returns how many bytes it put at the start of the buffer.
+    pub fn read_full(&mut self, buf: &mut [u8]) -> usize
+        ensures { result ≤ length buf.new }
+    {
+        match self {
+            Source::StandardInput(input) => read_full(input, buf),
+            Source::NamedFile(file) => read_full(file, buf),
+        }
+    }
+}
+
+fn read_full<T: Read>(from: &mut T, buf: &mut [u8]) -> usize
+    ensures { result ≤ length buf.new }
+{
+    let mut done: usize = 0;
+    while done < buf.len() {
+        let n = from.read(&mut buf[done..]).unwrap_or(0);
+        if n == 0 {
+            break;
+        }
+        done += n;
+    }
+    done
+}
+
+// The file that the first argument names, or standard input where there is no argument. Where the file cannot be read, standard error says
+// why, and there is nothing to read from.
+pub fn open<R: Files + Env + Input + Eprint + Alloc>(rt: &R) -> Option<Source<R::Reader, R::File>> {
+    let mut path = [0u8; MOST_PATH_BYTES];
+    match rt.arg(1, &mut path) {
+        Ok(n) => open_named(rt, &path[..n]),
+        Err(FillError::NotPresent) => Some(Source::StandardInput(rt.reader())),
+        Err(FillError::TooLong) => {
+            fail(
+                rt,
+                "the tape's name",
+                &Error::from_raw_os_error(NAME_TOO_LONG),
+            );
+            None
+        }
+    }
+}
+
+// A path is UTF-8, since std opens no other.
+fn open_named<R: Files + Input + Eprint + Alloc>(
+    rt: &R,
+    path: &[u8],
+) -> Option<Source<R::Reader, R::File>> {
+    let Ok(path) = str::from_utf8(path) else {
+        fail(
+            rt,
+            "the tape's name",
+            &Error::new(ErrorKind::InvalidData, "not in UTF-8"),
+        );
+        return None;
+    };
+    match open_readable(rt, path) {
+        Ok(file) => Some(Source::NamedFile(file)),
+        Err(error) => {
+            fail(rt, path, &error);
+            None
+        }
+    }
+}
+
+// A directory can be opened, and not read.
+fn open_readable<R: Files>(rt: &R, path: &str) -> std::io::Result<R::File> {
+    let mut file = fs::open(rt, path)?;
     let mut nothing = [0u8; 0];
-    fd >= 0 && libc::read(fd, &mut nothing) >= 0
+    file.read(&mut nothing)?;
+    Ok(file)
+}
+
+// The system's words, without the error's number that std puts behind them.
+fn words_of(said: &str) -> &str {
+    match said.split_once(" (os error ") {
+        Some((words, _)) => words,
+        None => said,
+    }
+}
+
+// Says on standard error what failed and why.
+fn fail<R: Eprint + Alloc>(rt: &R, what: &str, error: &Error) {
+    match error.to_string(rt.alloc()) {
+        Ok(said) => {
+            let why = words_of(said.as_str());
+            let _ = eprintln!(rt; "{what}: {why}");
+        }
+        Err(_) => {
+            let _ = eprintln!(rt; "{what}: {error}");
+        }
+    }
 }

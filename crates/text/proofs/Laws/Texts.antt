@@ -9,7 +9,7 @@ use lib.ListN.{length, take, get_or}
 use lib.Seq.{take-suc, take_all, length-take-le}
 use lib.Dec.{ltb}
 use borrow.Author.Tests.{ltb-true, ltb-false}
-use Rattle.lines.specs.Logic.{if◌then◌else◌}
+use Rattle.std.specs.Prelude.{if◌then◌else◌}
 use Rattle.lines.proofs.Laws.Logic.{by_test}
 use Rattle.output.specs.Texts.{Put}
 use Rattle.output.proofs.Laws.Texts.{put-append}

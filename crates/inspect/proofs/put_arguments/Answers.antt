@@ -1,0 +1,7 @@
+use Rattle.output.proofs.Laws.Texts.{put-append}
+use Rattle.inspect.specs.Inspect.{arguments_text}
+use Rattle.inspect.proofs.put_arguments.Goals as goal
+
+pub returns : goal.returns
+unfolding arguments_text
+returns g c = put-append (put-append (put-append c.put_field-at.ensures c.put_field-at-2.ensures) c.put_field-at-3.ensures) c.put_field.ensures

@@ -1,0 +1,7 @@
+use Rattle.output.proofs.Laws.Texts.{put-append}
+use Rattle.inspect.specs.Tables.{scheduler_text}
+use Rattle.inspect.proofs.tables.put_scheduler.Goals as goal
+
+pub returns : goal.returns
+unfolding scheduler_text
+returns g c = put-append (put-append c.put_start-at.ensures c.put_threads-at.ensures) c.put_orders.ensures

@@ -1,0 +1,7 @@
+use Rattle.output.proofs.Laws.Texts.{put-append}
+use Rattle.inspect.specs.Tables.{start_text}
+use Rattle.inspect.proofs.tables.put_start.Goals as goal
+
+pub returns : goal.returns
+unfolding start_text
+returns g c = put-append (put-append (put-append c.put_field-at.ensures c.put_text-at.ensures) c.put_thread-at.ensures) c.put_byte.ensures

@@ -1,0 +1,7 @@
+use Rattle.output.proofs.Laws.Texts.{put-append}
+use Rattle.inspect.specs.Tables.{tables_text}
+use Rattle.inspect.proofs.tables.put_tables.Goals as goal
+
+pub returns : goal.returns
+unfolding tables_text
+returns g c = put-append (put-append (put-append (put-append (put-append c.put_scheduler-at.ensures c.put_semaphores-at.ensures) c.put_queues-at.ensures) c.put_groups-at.ensures) c.put_pools-at.ensures) c.put_text.ensures

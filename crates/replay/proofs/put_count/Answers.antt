@@ -1,0 +1,7 @@
+use Rattle.output.proofs.Laws.Texts.{put-append}
+use Rattle.replay.specs.Replay.{count_text}
+use Rattle.replay.proofs.put_count.Goals as goal
+
+pub returns : goal.returns
+unfolding count_text
+returns g c = put-append c.put_field-at.ensures c.put_byte.ensures

@@ -1,0 +1,7 @@
+use Rattle.output.proofs.Laws.Texts.{put-append}
+use Rattle.text.specs.Objects.{pool_sizes_text}
+use Rattle.text.proofs.object_tables.put_pool_sizes.Goals as goal
+
+pub returns : goal.returns
+unfolding pool_sizes_text
+returns g c = put-append (put-append (put-append c.put_field-at.ensures c.put_field-at-2.ensures) c.put_field-at-3.ensures) (rw c.blocks-2.ensures at c.put_field.ensures)

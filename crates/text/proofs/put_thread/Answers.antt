@@ -1,0 +1,11 @@
+use borrow.Author.Tests.{lt-ltb, le-ltb}
+use Rattle.text.specs.Texts.{thread_text}
+use Rattle.text.proofs.put_thread.Goals as goal
+
+pub returns-then-t-lt-NOBODY : goal.returns-then-t-lt-NOBODY
+unfolding thread_text
+returns-then-t-lt-NOBODY g c = rw (lt-ltb c.args.t.0 32 c.if-t-lt-NOBODY.true) c.put_decimal.ensures
+
+pub returns : goal.returns
+unfolding thread_text
+returns g c = rw (le-ltb c.args.t.0 32 c.if-t-lt-NOBODY.false) c.put_byte.ensures
