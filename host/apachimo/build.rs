@@ -9,7 +9,7 @@ use std::time::SystemTime;
 
 const ARCHIVE: &str = "libapachimo.a";
 const FOLDER: &str = "APACHIMO_LIBRARY_DIR";
-const BUILD: &str = "rt staticlib apachimo";
+const BUILD: &str = "tools/staticlib";
 
 fn main() {
     println!("cargo:rerun-if-env-changed={FOLDER}");
@@ -59,10 +59,14 @@ fn modified(path: &Path) -> Option<SystemTime> {
     fs::metadata(path).ok()?.modified().ok()
 }
 
-/// When a file, or the newest one in a folder, was last changed.
+/// When a file, or the newest one in a folder, was last changed. What is made
+/// from the sources, in folders `out`, does not count.
 fn newest_below(path: &Path) -> Option<SystemTime> {
     if !path.is_dir() {
         return modified(path);
+    }
+    if path.ends_with("out") {
+        return None;
     }
     let entries = fs::read_dir(path).ok()?;
     entries.filter_map(|entry| newest_below(&entry.ok()?.path())).max()
@@ -75,13 +79,11 @@ fn prove_and_build(root: &Path, archive: &Path) -> Result<(), String> {
         archive.display(),
         root.display()
     );
-    let mut words = BUILD.split(' ');
-    let output = Command::new(words.next().unwrap_or_default())
-        .args(words)
+    let output = Command::new(root.join(BUILD))
         .current_dir(root)
         .env_remove("LD_LIBRARY_PATH")
         .output()
-        .map_err(|error| format!("{wanted}\n(`rt` is not on the path: {error})"))?;
+        .map_err(|error| format!("{wanted}\n({BUILD}: {error})"))?;
     if !output.status.success() || !archive.is_file() {
         let said = last_lines(&[output.stdout, output.stderr].concat());
         return Err(format!("{wanted}\n`{BUILD}` failed:\n{said}"));

@@ -1,7 +1,6 @@
 //! A board's tables, single calls on them, and runs of tapes.
 
 use crate::call::{Call, Caller};
-use crate::ended::Ended;
 use crate::library::{self, RawReply};
 use crate::numbers::Thread;
 use crate::status::Status;
@@ -11,9 +10,9 @@ use std::fmt;
 /// Bytes of a block of tables.
 pub const STATE_BYTES: usize = 5278;
 
-/// Words of a reply in a lent buffer: status, sixteen words, next thread, waits
-/// served, timed out, aborted, deleted.
-pub const REPLY_WORDS: usize = 22;
+/// Words of a reply in a lent buffer: status, sixteen words, next thread,
+/// ended waits.
+pub const REPLY_WORDS: usize = 19;
 
 /// What a call answers.
 #[derive(Clone, Copy, PartialEq, Eq, Debug)]
@@ -22,35 +21,31 @@ pub struct Reply {
     pub words: [u32; 16],
     /// Who runs next.
     pub next: Option<Thread>,
-    /// How many waits this call ended, by reason.
-    pub ended: Ended,
+    /// How many waits this call ended with a status.
+    pub ended: u32,
 }
 
 impl Reply {
     /// The answer of every call on unsound tables.
     pub const UNSOUND: Reply =
-        Reply { status: Status::TablesUnsound, words: [0; 16], next: None, ended: Ended::NONE };
+        Reply { status: Status::TablesUnsound, words: [0; 16], next: None, ended: 0 };
+
+    fn new(status: u32, words: [u32; 16], next: u32, ended: u32) -> Reply {
+        let next = (next < Thread::LIMIT).then_some(Thread(next));
+        Reply { status: known(status), words, next, ended }
+    }
 
     /// A reply as a run writes it into a lent buffer.
     pub fn from_words(words: &[u32; REPLY_WORDS]) -> Reply {
         let mut answered = [0; 16];
         answered.copy_from_slice(&words[1..17]);
-        let [next, served, timed_out, aborted, deleted] = [17, 18, 19, 20, 21].map(|at| words[at]);
-        let raw =
-            RawReply { status: words[0], words: answered, next, served, timed_out, aborted, deleted };
-        raw.into()
+        Reply::new(words[0], answered, words[17], words[18])
     }
 }
 
 impl From<RawReply> for Reply {
     fn from(raw: RawReply) -> Reply {
-        let RawReply { status, words, next, served, timed_out, aborted, deleted } = raw;
-        Reply {
-            status: known(status),
-            words,
-            next: (next < Thread::LIMIT).then_some(Thread(next)),
-            ended: Ended { served, timed_out, aborted, deleted },
-        }
+        Reply::new(raw.status, raw.words, raw.next, raw.ended)
     }
 }
 

@@ -20,24 +20,7 @@
 //! let reply = board.semaphore_get(Caller::Thread, Semaphore(0), Wait::ticks(3));
 //! assert_eq!((reply.status, reply.next), (Status::Waiting, None));
 //! let reply = board.semaphore_put(Caller::Interrupt, Semaphore(0));
-//! assert_eq!((reply.ended.served, reply.next), (1, Some(Thread(0))));
-//! ```
-//!
-//! # Why a wait ended
-//!
-//! A reply counts the waits that the call ended by the [`Reason`] for which they
-//! ended; [`Ended`] has an example.
-//!
-//! ```
-//! use apachimo::{Board, Caller, Reason, Semaphore, Start, Thread, Wait};
-//!
-//! let mut board = Board::new();
-//! board.thread_create(Caller::StartUp, Thread(0), 10, 10, Start::Auto);
-//! board.semaphore_create(Caller::StartUp, Semaphore(0), 0);
-//! board.semaphore_get(Caller::Thread, Semaphore(0), Wait::FOREVER);
-//! let ended = board.thread_wait_abort(Caller::Interrupt, Thread(0)).ended;
-//! assert_eq!(Reason::ALL.map(|reason| ended.of(reason)), [0, 0, 1, 0]);
-//! assert_eq!((ended.aborted, ended.total()), (1, 1));
+//! assert_eq!((reply.ended, reply.next), (1, Some(Thread(0))));
 //! ```
 //!
 //! # Queues
@@ -66,7 +49,7 @@
 //! board.event_flags_get(Caller::Thread, Group(0), 0b11, GetOption::AndClear, Wait::FOREVER);
 //! board.event_flags_set(Caller::Interrupt, Group(0), 0b01, SetOption::Or);
 //! let reply = board.event_flags_set(Caller::Interrupt, Group(0), 0b10, SetOption::Or);
-//! assert_eq!(reply.ended.served, 1);
+//! assert_eq!(reply.ended, 1);
 //! // The thread holds the flags that met its request.
 //! assert_eq!(board.read_words(Caller::Thread, Thread(0)).words[0], 0b11);
 //! ```
@@ -92,13 +75,12 @@
 //! let mut board = Board::new();
 //! board.thread_create(Caller::StartUp, Thread(0), 10, 10, Start::Auto);
 //! assert_eq!(board.thread_sleep(Caller::Thread, 1).status, Status::Waiting);
-//! assert_eq!(board.tick(Caller::Interrupt).ended.timed_out, 1);
+//! assert_eq!(board.tick(Caller::Interrupt).ended, 1);
 //! assert_eq!(board.time_get(Caller::Thread).words[0], 1);
 //! ```
 
 mod board;
 mod call;
-mod ended;
 pub mod library;
 mod numbers;
 mod services;
@@ -107,7 +89,6 @@ pub mod tables;
 
 pub use board::{Board, Reply, Run, REPLY_WORDS, STATE_BYTES};
 pub use call::{Call, Caller, GetOption, SetOption, Start, Wait};
-pub use ended::{Ended, Reason};
 pub use numbers::{Group, Pool, Queue, Semaphore, Thread};
 pub use status::{Status, UnknownStatus};
 

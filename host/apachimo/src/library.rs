@@ -13,18 +13,14 @@
 //! assert_eq!(library::is_sound(&state[1..]), Status::SizeError.number());
 //! ```
 
-/// What `apachimo_call` answers. `next` is 32 for nobody; the last four count
-/// the waits that the call ended, by reason.
+/// What `apachimo_call` answers. `next` is 32 for nobody.
 #[repr(C)]
 #[derive(Clone, Copy, PartialEq, Eq, Debug)]
 pub struct RawReply {
     pub status: u32,
     pub words: [u32; 16],
     pub next: u32,
-    pub served: u32,
-    pub timed_out: u32,
-    pub aborted: u32,
-    pub deleted: u32,
+    pub ended: u32,
 }
 
 /// What `apachimo_run` answers: its status, and how many records it carried out.
@@ -112,8 +108,8 @@ pub fn call(
     }
 }
 
-/// Carries out the records of a tape, at most `most` of them, and writes
-/// [`REPLY_WORDS`](crate::REPLY_WORDS) words for each.
+/// Carries out the records of a tape, at most `most` of them, and writes 19
+/// words for each.
 #[inline]
 pub fn run(state: &mut [u8], tape: &[u8], most: u32, replies: &mut [u32]) -> RawRun {
     // SAFETY: pointers and lengths are those of slices that share no byte;

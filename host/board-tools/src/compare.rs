@@ -40,7 +40,7 @@ impl Inspect {
             }
         }
         Err(format!(
-            "the proved program {PLACE} is not there; build it with `rt check inspect` in the \
+            "the proved program {PLACE} is not there; build it with `tools/program inspect` in the \
              repository's root, or name it with --inspect"
         ))
     }

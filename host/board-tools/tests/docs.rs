@@ -268,16 +268,16 @@ fn qualified(text: &str, alias: &str) -> Vec<String> {
     words.map(|word| word.split('.').next().unwrap().to_string()).collect()
 }
 
-/// The definitions of the project's crates that a text cites in its lines `use Rattle·CRATE.specs.FILE.{names}`, which may
+/// The definitions of the project's crates that a text cites in its lines `use Rattle.CRATE.specs.FILE.{names}`, which may
 /// be broken inside the braces, and behind a name that such a line gives to a file.
 fn cited_in(text: &str, crates: &BTreeSet<String>) -> Vec<Definition> {
     let mut cited = Vec::new();
-    for (start, lead) in text.match_indices("use Rattle·") {
+    for (start, lead) in text.match_indices("use Rattle.") {
         let rest = &text[start + lead.len()..];
         let line = &rest[..rest.find(['\n', ';', '{']).unwrap_or(rest.len())];
         let path = line.split(" as ").next().unwrap().trim().trim_end_matches('.');
         let Some((crate_name, path)) = path.split_once(".specs.") else { continue };
-        let crate_name = crate_name.trim_end_matches("·specs").to_string();
+        let crate_name = crate_name.to_string();
         let mut parts = path.split('.');
         let file = parts.next().unwrap().to_string();
         // The types of the code are no definitions of specs/, and the toolchain's own libraries are no crates of the project.

@@ -1,7 +1,6 @@
 //! Event flags services 29 to 32.
 
 use crate::call::Caller;
-use crate::ended::{Ended, Reason};
 use crate::fault;
 use crate::kernel::{may_wait, no_interrupt, only_thread, Answer, Reply};
 use crate::line::Line;
@@ -49,7 +48,7 @@ impl Tables {
     pub(crate) fn group_delete(&mut self, caller: Caller, number: GroupNo) -> Answer {
         let index = self.group(number)?;
         only_thread(caller)?;
-        let ended = self.end_line(self.groups[index].line, Reason::Deleted);
+        let ended = self.end_line(self.groups[index].line, Status::DELETED);
         self.groups[index] = Group::default();
         Ok(Reply::ended(ended))
     }
@@ -72,11 +71,11 @@ impl Tables {
     }
 
     /// Joins flags and tests every waiter against the joined ones; clears are
-    /// taken off afterwards.
-    fn join_flags<const FAULT: u8>(&mut self, index: usize, flags: u32) -> Ended {
+    /// taken off afterwards. Gives the number of waits ended.
+    fn join_flags<const FAULT: u8>(&mut self, index: usize, flags: u32) -> u32 {
         let mut joined = self.groups[index].flags | flags;
         let mut clears = 0;
-        let mut ended = Ended::NONE;
+        let mut ended = 0;
         let mut at = self.groups[index].line.first;
         while let Some(waiter) = at.index() {
             let record = &self.threads[waiter];
@@ -88,7 +87,8 @@ impl Tables {
             if option & CLEAR != 0 {
                 clears |= request;
             }
-            ended.add(self.serve_waiter(waiter, &[joined]));
+            self.serve_waiter(waiter, &[joined]);
+            ended += 1;
             if FAULT == fault::FLAGS_ALREADY_CLEARED {
                 joined &= !clears;
             }

@@ -1,7 +1,6 @@
 //! One call: soundness, refusals, the service, the choice of the next thread.
 
 use crate::call::{Call, Caller};
-use crate::ended::{Ended, Reason};
 use crate::fault;
 use crate::numbers::ThreadNo;
 use crate::status::Status;
@@ -14,15 +13,15 @@ pub struct Outcome {
     pub words: Message,
     /// Who runs next.
     pub next: Option<ThreadNo>,
-    /// How many waits this call ended, by reason.
-    pub ended: Ended,
+    /// How many waits this call ended with a status.
+    pub ended: u32,
 }
 
 /// A service's answer before the choice of the next thread.
 pub(crate) struct Reply {
     pub status: Status,
     pub words: Message,
-    pub ended: Ended,
+    pub ended: u32,
 }
 
 /// A service either replies or refuses with a status, nothing changed.
@@ -31,18 +30,12 @@ pub(crate) type Answer = Result<Reply, Status>;
 impl Reply {
     #[inline]
     pub(crate) fn done() -> Reply {
-        Reply { status: Status::SUCCESS, words: [0; 16], ended: Ended::NONE }
+        Reply { status: Status::SUCCESS, words: [0; 16], ended: 0 }
     }
 
     #[inline]
-    pub(crate) fn ended(ended: Ended) -> Reply {
+    pub(crate) fn ended(ended: u32) -> Reply {
         Reply { ended, ..Reply::done() }
-    }
-
-    /// One wait ended for this reason.
-    #[inline]
-    pub(crate) fn ended_one(reason: Reason) -> Reply {
-        Reply::ended(Ended::one(reason))
     }
 
     #[inline]
@@ -61,7 +54,7 @@ impl Reply {
 
 impl Outcome {
     fn refused(status: Status, next: Option<ThreadNo>) -> Outcome {
-        Outcome { status, words: [0; 16], next, ended: Ended::NONE }
+        Outcome { status, words: [0; 16], next, ended: 0 }
     }
 
     /// The answer of every call on unsound tables.

@@ -17,25 +17,9 @@
 //! assert_eq!(outcome.status, Status::NO_INSTANCE);
 //! assert_eq!(outcome.next, Some(ThreadNo(0)));
 //! ```
-//!
-//! A result counts the waits that the call ended by the reason for which they
-//! ended: served, timed out, aborted or deleted.
-//!
-//! ```
-//! use ordinary::{Call, Caller, Ended, Reason, Tables, ThreadNo};
-//!
-//! let mut tables = Tables::new();
-//! let create = Call::ThreadCreate { thread: ThreadNo(0), priority: 10, threshold: 10, start: 1 };
-//! tables.call(Caller::StartUp, create, &[]);
-//! tables.call(Caller::Thread, Call::ThreadSleep { ticks: 1 }, &[]);
-//! let outcome = tables.call(Caller::Interrupt, Call::Tick, &[]);
-//! assert_eq!(outcome.ended, Ended { timed_out: 1, ..Ended::NONE });
-//! assert_eq!((outcome.ended.of(Reason::Served), outcome.ended.total()), (0, 1));
-//! ```
 
 mod account;
 mod call;
-mod ended;
 pub mod fault;
 mod groups;
 mod kernel;
@@ -55,7 +39,6 @@ mod threads;
 
 pub use account::Accounts;
 pub use call::{Call, Caller};
-pub use ended::{Ended, Reason};
 pub use kernel::Outcome;
 pub use line::{Line, Link};
 pub use numbers::{GroupNo, PoolNo, QueueNo, SemaphoreNo, ThreadNo};

@@ -1,7 +1,6 @@
 //! Block pool services 33 to 37, and the view of a block.
 
 use crate::call::Caller;
-use crate::ended::Reason;
 use crate::kernel::{may_wait, no_interrupt, only_thread, Answer, Reply};
 use crate::numbers::PoolNo;
 use crate::semaphores::prioritise_line;
@@ -90,7 +89,7 @@ impl Tables {
     pub(crate) fn pool_delete(&mut self, caller: Caller, number: PoolNo) -> Answer {
         let index = self.pool(number)?;
         only_thread(caller)?;
-        let ended = self.end_line(self.pools[index].line, Reason::Deleted);
+        let ended = self.end_line(self.pools[index].line, Status::DELETED);
         self.pools[index] = Pool::EMPTY;
         Ok(Reply::ended(ended))
     }
@@ -113,7 +112,8 @@ impl Tables {
         let index = self.pool(number)?;
         let block = self.pools[index].used_block(block).ok_or(Status::PTR_ERROR)?;
         if let Some(waiter) = self.pools[index].line.first.index() {
-            return Ok(Reply::ended_one(self.serve_waiter(waiter, &[block as u32])));
+            self.serve_waiter(waiter, &[block as u32]);
+            return Ok(Reply::ended(1));
         }
         self.pools[index].put_back(block);
         Ok(Reply::done())

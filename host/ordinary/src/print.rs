@@ -1,6 +1,5 @@
 //! The printed forms of a run: what `replay` and `inspect` print.
 
-use crate::ended::Ended;
 use crate::kernel::Outcome;
 use crate::line::Line;
 use crate::numbers::ThreadNo;
@@ -24,7 +23,8 @@ pub fn replay(bytes: &[u8]) -> String {
         number(&mut out, outcome.status.0);
         out.push(' ');
         next(&mut out, outcome.next);
-        ended(&mut out, outcome.ended);
+        out.push(' ');
+        number(&mut out, outcome.ended);
         out.push('\n');
     });
     out.push_str(&format!("done {done}\n"));
@@ -74,13 +74,6 @@ fn next(out: &mut String, next: Option<ThreadNo>) {
     }
 }
 
-/// Appends the counts of ended waits: served, timed out, aborted, deleted.
-fn ended(out: &mut String, ended: Ended) {
-    for count in ended.counts() {
-        field(out, " ", count);
-    }
-}
-
 /// Appends `label` and a number.
 fn field(out: &mut String, label: &str, value: u32) {
     out.push_str(label);
@@ -113,7 +106,7 @@ pub fn result(out: &mut String, outcome: &Outcome) {
     field(out, "result ", outcome.status.0);
     out.push(' ');
     next(out, outcome.next);
-    ended(out, outcome.ended);
+    field(out, " ", outcome.ended);
     for &word in &outcome.words {
         field(out, " ", word);
     }

@@ -1,7 +1,6 @@
 //! Queue services 22 to 28.
 
 use crate::call::Caller;
-use crate::ended::Reason;
 use crate::kernel::{may_wait, no_interrupt, only_thread, Answer, Reply};
 use crate::numbers::QueueNo;
 use crate::semaphores::prioritise_line;
@@ -110,7 +109,7 @@ impl Tables {
     pub(crate) fn queue_delete(&mut self, caller: Caller, number: QueueNo) -> Answer {
         let index = self.queue(number)?;
         only_thread(caller)?;
-        let ended = self.end_line(self.queues[index].line, Reason::Deleted);
+        let ended = self.end_line(self.queues[index].line, Status::DELETED);
         self.queues[index] = Queue::EMPTY;
         Ok(Reply::ended(ended))
     }
@@ -144,7 +143,8 @@ impl Tables {
         }
         // With room in the store, whoever stands in line is a receiver.
         if let Some(receiver) = queue.line.first.index() {
-            return Ok(Reply::ended_one(self.serve_waiter(receiver, message)));
+            self.serve_waiter(receiver, message);
+            return Ok(Reply::ended(1));
         }
         if front {
             queue.store_first(message);
@@ -185,8 +185,8 @@ impl Tables {
             return Ok(Reply { words: queue.take_first(), ..Reply::done() });
         };
         let words = self.receive_past_sender(index, sender);
-        let reason = self.end_wait(sender, Reason::Served);
-        Ok(Reply { words, ..Reply::ended_one(reason) })
+        self.end_wait(sender, Status::SUCCESS);
+        Ok(Reply { words, ..Reply::ended(1) })
     }
 
     /// What a receive gives while a sender waits: a front sender's message
@@ -208,7 +208,7 @@ impl Tables {
             return Ok(Reply::done());
         }
         self.queues[index].clear();
-        let ended = self.end_line(self.queues[index].line, Reason::Served);
+        let ended = self.end_line(self.queues[index].line, Status::SUCCESS);
         Ok(Reply::ended(ended))
     }
 

@@ -5,7 +5,6 @@
 //! receiver, a queue. It applies as long as no prioritise or delete of that
 //! object succeeds.
 
-use crate::ended::Reason;
 use crate::kernel::Outcome;
 use crate::line::Line;
 use crate::numbers::{PoolNo, QueueNo, SemaphoreNo, ThreadNo};
@@ -111,21 +110,10 @@ pub struct Roll {
     left_early: bool,
 }
 
-/// Whom one call strikes out of a roll.
-#[derive(Clone, Copy, Default)]
-struct Struck {
-    /// One bit a thread.
-    threads: u32,
-    /// Why their waits ended; a terminated thread's wait ended for none.
-    reason: Option<Reason>,
-    /// The roll's own thread is among them.
-    over: bool,
-}
-
 /// What one call means for a roll.
 enum Fed {
-    /// The roll goes on or has just ended.
-    Struck(Struck),
+    /// The roll goes on or has just ended; `struck` were struck out by the call.
+    Struck { struck: u32, over: bool },
     /// A prioritise or delete of the object succeeded; the roll says no more.
     NoLonger,
 }
@@ -157,14 +145,13 @@ impl Roll {
         after: &Tables,
     ) -> Result<bool, RollError> {
         self.check_late_service(record, outcome)?;
-        let struck = match self.feed(record, outcome.status) {
+        let (struck, over) = match self.feed(record, outcome.status) {
             Fed::NoLonger => return Ok(false),
-            Fed::Struck(struck) => struck,
+            Fed::Struck { struck, over } => (struck, over),
         };
-        self.check_line(struck.threads, after)?;
-        self.check_reason(struck, outcome)?;
-        self.check_count(record, area, struck.over, after)?;
-        Ok(!struck.over)
+        self.check_line(struck, after)?;
+        self.check_count(record, area, over, after)?;
+        Ok(!over)
     }
 
     /// As long as the wait lasts, no get, allocate or receive is served.
@@ -178,34 +165,27 @@ impl Roll {
     /// Changes the roll as the call and its status say.
     fn feed(&mut self, record: &Record, status: Status) -> Fed {
         if status != Status::SUCCESS {
-            return Fed::Struck(Struck::default());
+            return Fed::Struck { struck: 0, over: false };
         }
         if self.object.is_reordered_by(record) {
             return Fed::NoLonger;
         }
-        let (threads, reason) = self.struck_by(record);
-        if reason == Some(Reason::Served) {
+        let mut struck = 0;
+        if self.object.is_given_by(record) {
+            struck = 1 << self.entries[0].thread;
             self.gives_left -= 1;
         } else {
-            self.left_early |= threads != 0;
+            match record.call {
+                5 | 10 if record.args[0] < 32 => struck = 1 << record.args[0],
+                15 => struck = self.count_down(),
+                _ => {}
+            }
+            struck &= self.members();
+            self.left_early |= struck != 0;
         }
-        self.strike(threads);
-        let over = threads >> self.thread & 1 == 1;
-        Fed::Struck(Struck { threads, reason, over })
-    }
-
-    /// Which of the roll a call that succeeded strikes out, and why.
-    fn struck_by(&mut self, record: &Record) -> (u32, Option<Reason>) {
-        if self.object.is_given_by(record) {
-            return (1 << self.entries[0].thread, Some(Reason::Served));
-        }
-        let (threads, reason) = match record.call {
-            5 if record.args[0] < 32 => (1 << record.args[0], None),
-            10 if record.args[0] < 32 => (1 << record.args[0], Some(Reason::Aborted)),
-            15 => (self.count_down(), Some(Reason::TimedOut)),
-            _ => (0, None),
-        };
-        (threads & self.members(), reason)
+        self.strike(struck);
+        let over = struck >> self.thread & 1 == 1;
+        Fed::Struck { struck, over }
     }
 
     /// Takes a tick from each timed entry; gives those with none left.
@@ -254,18 +234,8 @@ impl Roll {
         Ok(())
     }
 
-    /// Those struck out are among the waits that the call counts for their
-    /// reason: the first in line among those served by a giving call.
-    fn check_reason(&self, struck: Struck, outcome: &Outcome) -> Result<(), RollError> {
-        let counted = struck.reason.map_or(u32::MAX, |reason| outcome.ended.of(reason));
-        if counted < struck.threads.count_ones() {
-            return Err(self.error("a thread that was struck out is not counted for its reason"));
-        }
-        Ok(())
-    }
-
-    /// The wait is over by the (k+1)th giving call; if nobody left early,
-    /// exactly that call serves the thread.
+    /// The wait is over by the (k+1)th giving call; exactly that call serves
+    /// the thread if nobody left early.
     fn check_count(
         &self,
         record: &Record,

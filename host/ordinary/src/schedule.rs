@@ -1,6 +1,5 @@
 //! The choice of the next thread, and waits: how they begin and how they end.
 
-use crate::ended::{Ended, Reason};
 use crate::fault;
 use crate::line::{Line, Link};
 use crate::status::Status;
@@ -136,23 +135,8 @@ impl Tables {
         thread
     }
 
-    /// The step that ends one wait or sleep, whatever the call. The reason
-    /// decides what the thread holds, and is what the call counts.
-    #[inline]
-    pub(crate) fn end_wait(&mut self, thread: usize, reason: Reason) -> Reason {
-        let status = match reason {
-            Reason::Served => Status::SUCCESS,
-            Reason::TimedOut => self.timeout_status(thread),
-            Reason::Aborted => Status::WAIT_ABORTED,
-            Reason::Deleted => Status::DELETED,
-        };
-        self.wake(thread, status);
-        reason
-    }
-
-    /// Takes a thread out of its wait with a held status; a held suspension
-    /// takes effect.
-    fn wake(&mut self, thread: usize, status: Status) {
+    /// Ends one wait or sleep with a status; a held suspension takes effect.
+    pub(crate) fn end_wait(&mut self, thread: usize, status: Status) {
         self.leave_wait(thread);
         let record = &mut self.threads[thread];
         record.held_status = status;
@@ -166,20 +150,19 @@ impl Tables {
 
     /// Serves a waiter: its held words are `words`.
     #[inline]
-    pub(crate) fn serve_waiter(&mut self, thread: usize, words: &[u32]) -> Reason {
-        let reason = self.end_wait(thread, Reason::Served);
+    pub(crate) fn serve_waiter(&mut self, thread: usize, words: &[u32]) {
+        self.end_wait(thread, Status::SUCCESS);
         self.threads[thread].held_words[..words.len()].copy_from_slice(words);
-        reason
     }
 
-    /// Ends the waits of a whole line for one reason, in line order.
-    #[inline]
-    pub(crate) fn end_line(&mut self, line: Line, reason: Reason) -> Ended {
-        let mut ended = Ended::NONE;
+    /// Ends the waits of a whole line, in line order.
+    pub(crate) fn end_line(&mut self, line: Line, status: Status) -> u32 {
+        let mut ended = 0;
         let mut at = line.first;
         while let Some(thread) = at.index() {
             at = self.threads[thread].next;
-            ended.add(self.end_wait(thread, reason));
+            self.end_wait(thread, status);
+            ended += 1;
         }
         ended
     }
@@ -229,16 +212,18 @@ impl Tables {
     }
 
     /// Takes a tick from every timed wait and ends those at zero, in thread
-    /// order.
-    pub(crate) fn count_down(&mut self) -> Ended {
-        let mut ended = Ended::NONE;
+    /// order. Gives the number of waits ended.
+    pub(crate) fn count_down(&mut self) -> u32 {
+        let mut ended = 0;
         let mut timed = self.timed;
         while timed != 0 {
             let thread = timed.trailing_zeros() as usize;
             timed &= timed - 1;
             self.threads[thread].wait -= 1;
             if self.threads[thread].wait == 0 {
-                ended.add(self.end_wait(thread, Reason::TimedOut));
+                let status = self.timeout_status(thread);
+                self.end_wait(thread, status);
+                ended += 1;
             }
         }
         ended

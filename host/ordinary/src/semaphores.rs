@@ -1,7 +1,6 @@
 //! Semaphore services 16 to 21.
 
 use crate::call::Caller;
-use crate::ended::{Ended, Reason};
 use crate::fault;
 use crate::kernel::{may_wait, no_interrupt, only_thread, Answer, Reply};
 use crate::line::Line;
@@ -46,7 +45,7 @@ impl Tables {
     pub(crate) fn semaphore_delete(&mut self, caller: Caller, number: SemaphoreNo) -> Answer {
         let index = self.semaphore(number)?;
         only_thread(caller)?;
-        let ended = self.end_line(self.semaphores[index].line, Reason::Deleted);
+        let ended = self.end_line(self.semaphores[index].line, Status::DELETED);
         self.semaphores[index] = Semaphore::default();
         Ok(Reply::ended(ended))
     }
@@ -100,7 +99,8 @@ impl Tables {
     fn give_instance<const FAULT: u8>(&mut self, index: usize) -> Reply {
         match self.semaphores[index].line.first.index() {
             Some(waiter) if FAULT != fault::LATE_GET_SERVED => {
-                Reply::ended_one(self.serve_waiter(waiter, &[]))
+                self.serve_waiter(waiter, &[]);
+                Reply::ended(1)
             }
             _ => {
                 self.semaphores[index].count += 1;
@@ -110,12 +110,15 @@ impl Tables {
     }
 
     /// Waiters take from the count: only the student error does this.
-    pub(crate) fn serve_from_count(&mut self, index: usize, ended: &mut Ended) {
+    pub(crate) fn serve_from_count(&mut self, index: usize) -> u32 {
+        let mut ended = 0;
         while self.semaphores[index].count > 0 {
             let Some(waiter) = self.semaphores[index].line.first.index() else { break };
             self.semaphores[index].count -= 1;
-            ended.add(self.serve_waiter(waiter, &[]));
+            self.serve_waiter(waiter, &[]);
+            ended += 1;
         }
+        ended
     }
 
     pub(crate) fn semaphore_prioritise<const FAULT: u8>(&mut self, number: SemaphoreNo) -> Answer {

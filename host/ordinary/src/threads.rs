@@ -1,7 +1,6 @@
 //! Thread services 1 to 12, the clock, and reads of a thread.
 
 use crate::call::Caller;
-use crate::ended::Reason;
 use crate::fault;
 use crate::kernel::{no_interrupt, only_thread, Answer, Reply};
 use crate::numbers::{SemaphoreNo, ThreadNo};
@@ -159,7 +158,8 @@ impl Tables {
         if !self.threads[index].state.is_blocked() {
             return Err(Status::WAIT_ABORT_ERROR);
         }
-        Ok(Reply::ended_one(self.end_wait(index, Reason::Aborted)))
+        self.end_wait(index, Status::WAIT_ABORTED);
+        Ok(Reply::ended(1))
     }
 
     pub(crate) fn thread_priority_change(
@@ -213,7 +213,7 @@ impl Tables {
         let mut ended = self.count_down();
         if FAULT == fault::LATE_GET_SERVED {
             for semaphore in 0..SemaphoreNo::LIMIT {
-                self.serve_from_count(semaphore, &mut ended);
+                ended += self.serve_from_count(semaphore);
             }
         }
         Ok(Reply::ended(ended))

@@ -48,7 +48,7 @@ fn p4_set_tests_all_waiters_against_the_same_flags() {
     board.wait(32, &[0, 1, 0, FOREVER]);
     board.wait(32, &[0, 3, 2, FOREVER]);
     let outcome = board.ok(INTERRUPT, 31, &[0, 1, 0]);
-    assert_eq!(outcome.ended, served(2));
+    assert_eq!(outcome.ended, 2);
     assert_eq!(board.tables.groups[0].flags, 0);
     assert_eq!(board.group_line(0), [2]);
     for thread in 0..2 {
@@ -156,7 +156,7 @@ fn a_timed_get_that_runs_out_holds_no_instance() {
     board.thread(0, 10);
     board.ok(STARTUP, 16, &[0, 0]);
     board.wait(18, &[0, 1]);
-    assert_eq!(board.tick().ended, timed_out(1));
+    assert_eq!(board.tick().ended, 1);
     assert_eq!(board.ok(INTERRUPT, 38, &[0]).words, padded(&[0, 0x0D]));
 }
 

@@ -348,7 +348,7 @@ fn a_send_to_a_waiting_receiver_is_refused_like_any_other() {
         board.refused(INTERRUPT, number, &[1, 0, 39], 0x03);
         board.refused(INTERRUPT, number, &[1, 1, 38], 0x04);
         assert_eq!(board.queue_line(1), [0]);
-        assert_eq!(board.ok(INTERRUPT, number, &[1, 0, 38]).ended, served(1));
+        assert_eq!(board.ok(INTERRUPT, number, &[1, 0, 38]).ended, 1);
     }
 }
 

@@ -2,7 +2,7 @@
 
 mod common;
 use common::*;
-use ordinary::{Ended, Outcome, Record, Roll, Rolls, Status, ThreadNo};
+use ordinary::{Outcome, Record, Roll, Rolls, Status, ThreadNo};
 
 /// Threads 0, 1, 2 (timed: 5, forever, 2) wait on semaphore 0; 3 runs.
 fn waiting() -> Board {
@@ -92,23 +92,22 @@ fn the_roll_of_a_pool_counts_its_releases() {
 #[test]
 fn wrong_runs_of_a_pool_are_noticed() {
     let board = waiting_for_blocks();
-    let follow = |record: Record, ended: Ended, board: &Board| {
+    let follow = |record: Record, status: u32, board: &Board| {
         let mut roll = Roll::start(&waiting_for_blocks().tables, ThreadNo(0)).unwrap();
-        let (status, next) = (Status::SUCCESS, board.tables.runner());
-        let outcome = Outcome { status, words: [0; 16], next, ended };
+        let (status, next) = (Status(status), board.tables.runner());
+        let outcome = Outcome { status, words: [0; 16], next, ended: 0 };
         roll.follow(&record, &area(), &outcome, &board.tables).map_err(|error| error.what)
     };
-    let allocate = Record { call: 35, caller: INTERRUPT, args: [0; 4] };
-    let late = follow(allocate, Ended::NONE, &board);
+    let late = follow(Record { call: 35, caller: INTERRUPT, args: [0; 4] }, 0, &board);
     assert_eq!(late, Err("a later call was served while the thread waited"));
     let release = Record { call: 36, caller: INTERRUPT, args: [0; 4] };
-    let unserved = follow(release, served(1), &board);
+    let unserved = follow(release, 0, &board);
     assert_eq!(unserved, Err("a thread that was struck out still stands in line"));
-    let mut right = board.clone();
-    right.ok(INTERRUPT, 36, &[0, 0]);
-    assert_eq!(follow(release, served(1), &right), Ok(false));
-    right.tables.threads[0].held_words[0] = 1;
-    let wrong_block = follow(release, served(1), &right);
+    let mut served = board.clone();
+    served.ok(INTERRUPT, 36, &[0, 0]);
+    assert_eq!(follow(release, 0, &served), Ok(false));
+    served.tables.threads[0].held_words[0] = 1;
+    let wrong_block = follow(release, 0, &served);
     assert_eq!(wrong_block, Err("the served thread does not hold what the giving call gave"));
 }
 
@@ -134,9 +133,8 @@ fn objection(call: u32, args: [u32; 4], status: u32, change: fn(&mut Board)) -> 
     let mut board = waiting();
     let mut roll = Roll::start(&board.tables, ThreadNo(1)).unwrap();
     change(&mut board);
-    let ended = Ended::NONE;
     let outcome =
-        Outcome { status: Status(status), words: [0; 16], next: board.tables.runner(), ended };
+        Outcome { status: Status(status), words: [0; 16], next: board.tables.runner(), ended: 0 };
     let record = Record { call, caller: INTERRUPT, args };
     roll.follow(&record, &area(), &outcome, &board.tables).unwrap_err().what
 }
@@ -175,59 +173,4 @@ fn wrong_held_words_are_noticed() {
     board.tables.threads[0].held_words[1] += 1;
     let error = rolls.follow(&record, &area(), &outcome, &board.tables).unwrap_err();
     assert_eq!(error.what, "the served thread does not hold what the giving call gave");
-}
-
-/// What the roll of thread 2 says of a call whose counts are these instead.
-fn counted(
-    caller: u32,
-    call: u32,
-    args: [u32; 4],
-    ended: Ended,
-) -> Result<bool, &'static str> {
-    let mut board = waiting();
-    board.tick();
-    let mut roll = Roll::start(&board.tables, ThreadNo(2)).unwrap();
-    let outcome = Outcome { ended, ..board.ok(caller, call, &args) };
-    let record = Record { call, caller, args };
-    roll.follow(&record, &area(), &outcome, &board.tables).map_err(|error| error.what)
-}
-
-#[test]
-fn a_wrong_reason_is_noticed() {
-    let objection = Err("a thread that was struck out is not counted for its reason");
-    // A put serves the first in line; the roll goes on.
-    for (ended, said) in [
-        (served(1), Ok(true)),
-        (Ended::NONE, objection),
-        (timed_out(1), objection),
-        (aborted(1), objection),
-        (deleted(1), objection),
-    ] {
-        assert_eq!(counted(INTERRUPT, 19, [0; 4], ended), said, "{ended:?}");
-        assert_eq!(counted(INTERRUPT, 20, [0, 1, 0, 0], ended), said, "{ended:?}");
-    }
-    // A tick ends the wait of thread 2, and an abort does.
-    assert_eq!(counted(INTERRUPT, 15, [0; 4], timed_out(1)), Ok(false));
-    assert_eq!(counted(INTERRUPT, 15, [0; 4], served(1)), objection);
-    assert_eq!(counted(INTERRUPT, 10, [2, 0, 0, 0], aborted(1)), Ok(false));
-    assert_eq!(counted(INTERRUPT, 10, [2, 0, 0, 0], served(1)), objection);
-    // A terminate counts nothing.
-    assert_eq!(counted(THREAD, 5, [2, 0, 0, 0], Ended::NONE), Ok(false));
-}
-
-/// Exactly the giving call whose turn it is has the thread among its served.
-#[test]
-fn the_call_behind_as_many_as_stand_ahead_serves_the_thread() {
-    for ahead in 0..3 {
-        let mut board = waiting();
-        let mut roll = Roll::start(&board.tables, ThreadNo(ahead)).unwrap();
-        for put in 0..=ahead {
-            let outcome = board.ok(INTERRUPT, 19, &[0]);
-            assert_eq!(outcome.ended, served(1));
-            let record = Record { call: 19, caller: INTERRUPT, args: [0; 4] };
-            let goes_on = roll.follow(&record, &area(), &outcome, &board.tables).unwrap();
-            assert_eq!(goes_on, put < ahead, "put {put} with {ahead} ahead");
-        }
-        assert_eq!((board.state(ahead as usize), board.held_status(ahead as usize)), (0, 0));
-    }
 }

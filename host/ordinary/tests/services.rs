@@ -2,7 +2,6 @@
 
 mod common;
 use common::*;
-use ordinary::Ended;
 
 /// A board whose threads 0, 1, .. of priority 10 are ready in this order.
 fn threads(count: u32) -> Board {
@@ -28,7 +27,7 @@ fn resume_of_a_held_suspension_is_0x19_and_counts_nothing() {
     board.wait(9, &[5]);
     board.ok(THREAD, 4, &[0]);
     let outcome = board.call(INTERRUPT, 3, &[0]);
-    assert_eq!((outcome.status.0, outcome.ended), (0x19, Ended::NONE));
+    assert_eq!((outcome.status.0, outcome.ended), (0x19, 0));
     assert_eq!(outcome.next.unwrap().0, 1);
     board.refused(INTERRUPT, 3, &[0], 0x12);
     assert_eq!(board.state(0), 4);
@@ -43,13 +42,13 @@ fn a_held_suspension_takes_effect_however_the_wait_ends() {
         board.ok(THREAD, 4, &[0]);
         board.ok(THREAD, 4, &[0]); // a second one has no effect
         assert_eq!(board.state(0), 6);
-        let (outcome, ended, held) = match way {
-            0 => (board.ok(INTERRUPT, 19, &[0]), served(1), 0x00),
-            1 => (board.tick(), timed_out(1), 0x0D),
-            2 => (board.ok(INTERRUPT, 10, &[0]), aborted(1), 0x1A),
-            _ => (board.ok(THREAD, 17, &[0]), deleted(1), 0x01),
+        let (outcome, held) = match way {
+            0 => (board.ok(INTERRUPT, 19, &[0]), 0x00),
+            1 => (board.tick(), 0x0D),
+            2 => (board.ok(INTERRUPT, 10, &[0]), 0x1A),
+            _ => (board.ok(THREAD, 17, &[0]), 0x01),
         };
-        assert_eq!(outcome.ended, ended);
+        assert_eq!(outcome.ended, 1);
         assert_eq!((board.state(0), board.held_status(0)), (3, held));
         board.ok(INTERRUPT, 3, &[0]); // an ordinary suspension now
         assert_eq!(board.state(0), 0);
@@ -72,7 +71,7 @@ fn terminate_takes_a_waiter_out_of_its_line_without_counting() {
     board.ok(STARTUP, 16, &[0, 0]);
     board.wait(18, &[0, 7]);
     board.wait(18, &[0, 7]);
-    assert_eq!(board.ok(THREAD, 5, &[0]).ended, Ended::NONE);
+    assert_eq!(board.ok(THREAD, 5, &[0]).ended, 0);
     assert_eq!(board.semaphore_line(0), [1]);
     assert_eq!((board.state(0), board.held_status(0)), (2, 0));
     // Terminating again changes nothing; a put serves the next waiter.
@@ -147,8 +146,8 @@ fn sleep_runs_out_with_status_zero() {
     let mut board = threads(2);
     board.wait(9, &[2]);
     assert_eq!((board.state(0), board.held_status(0)), (4, 0x101));
-    assert_eq!(board.tick().ended, Ended::NONE);
-    assert_eq!(board.tick().ended, timed_out(1));
+    assert_eq!(board.tick().ended, 0);
+    assert_eq!(board.tick().ended, 1);
     assert_eq!((board.state(0), board.held_status(0)), (0, 0));
 }
 
@@ -166,9 +165,9 @@ fn an_endless_sleep_ends_by_abort_only() {
     let mut board = threads(2);
     board.wait(9, &[FOREVER]);
     for _ in 0..50 {
-        assert_eq!(board.tick().ended, Ended::NONE);
+        assert_eq!(board.tick().ended, 0);
     }
-    assert_eq!(board.ok(INTERRUPT, 10, &[0]).ended, aborted(1));
+    assert_eq!(board.ok(INTERRUPT, 10, &[0]).ended, 1);
     assert_eq!(board.held_status(0), 0x1A);
 }
 
@@ -203,9 +202,9 @@ fn setting_the_clock_moves_no_wait() {
     let mut board = threads(1);
     board.wait(9, &[2]);
     board.ok(INTERRUPT, 14, &[0xFFFF_FFFF]);
-    assert_eq!(board.tick().ended, Ended::NONE);
+    assert_eq!(board.tick().ended, 0);
     assert_eq!(board.tables.clock, 0);
-    assert_eq!(board.tick().ended, timed_out(1));
+    assert_eq!(board.tick().ended, 1);
 }
 
 #[test]
@@ -215,11 +214,11 @@ fn a_put_serves_the_first_waiter_only() {
     board.wait(18, &[0, FOREVER]);
     board.wait(18, &[0, FOREVER]);
     let outcome = board.ok(THREAD, 19, &[0]);
-    assert_eq!(outcome.ended, served(1));
+    assert_eq!(outcome.ended, 1);
     assert_eq!(board.semaphore_line(0), [1]);
     assert_eq!((board.held_status(0), board.held_status(1)), (0, 0x101));
     board.refused(THREAD, 18, &[0, 0], 0x0D);
-    assert_eq!(board.ok(THREAD, 20, &[0, 1]).ended, served(1));
+    assert_eq!(board.ok(THREAD, 20, &[0, 1]).ended, 1);
     assert_eq!(board.tables.semaphores[0].count, 0);
 }
 
@@ -239,7 +238,7 @@ fn deleting_ends_waits_in_line_order_with_deleted() {
     board.wait(32, &[0, 2, 2, FOREVER]);
     board.wait(9, &[1]);
     let outcome = board.ok(THREAD, 30, &[0]);
-    assert_eq!(outcome.ended, deleted(2));
+    assert_eq!(outcome.ended, 2);
     assert_eq!(board.ready(10), [3, 0, 1]);
     assert_eq!((board.held_status(0), board.held_status(1)), (1, 1));
     assert!(!board.tables.groups[0].created);
@@ -252,7 +251,7 @@ fn deleting_a_queue_drops_its_messages_and_those_of_its_senders() {
     board.ok(STARTUP, 24, &[0, 0, 0]);
     board.wait(24, &[0, 9, 2]);
     board.wait(25, &[0, FOREVER, 4]);
-    assert_eq!(board.ok(THREAD, 23, &[0]).ended, deleted(2));
+    assert_eq!(board.ok(THREAD, 23, &[0]).ended, 2);
     // Line order: the front sender 1 stood first.
     assert_eq!(board.ready(10), [2, 3, 1, 0]);
     for thread in [0, 1] {
@@ -270,7 +269,7 @@ fn deleting_a_queue_ends_the_waits_of_its_receivers() {
     board.ok(STARTUP, 22, &[7, 1, 1]);
     board.wait(26, &[7, FOREVER]);
     board.wait(26, &[7, 3]);
-    assert_eq!(board.ok(THREAD, 23, &[7]).ended, deleted(2));
+    assert_eq!(board.ok(THREAD, 23, &[7]).ended, 2);
     assert_eq!((board.held_status(0), board.held_status(1)), (1, 1));
     assert!(!board.tables.queues[7].created);
 }
@@ -282,7 +281,7 @@ fn an_aborted_sender_takes_its_message_along() {
         board.ok(STARTUP, 22, &[0, 1, 1]);
         board.ok(STARTUP, 24, &[0, 0, 0]);
         board.wait(number, &[0, FOREVER, 1]);
-        assert_eq!(board.ok(INTERRUPT, 10, &[0]).ended, aborted(1));
+        assert_eq!(board.ok(INTERRUPT, 10, &[0]).ended, 1);
         assert_eq!(board.held_status(0), 0x1A);
         assert_eq!(board.ok(INTERRUPT, 26, &[0, 0]).words[0], 100);
         board.refused(INTERRUPT, 26, &[0, 0], 0x0A);
@@ -296,7 +295,7 @@ fn a_send_goes_straight_to_the_first_receiver() {
         board.ok(STARTUP, 22, &[0, 3, 9]);
         board.wait(26, &[0, FOREVER]);
         board.wait(26, &[0, 5]);
-        assert_eq!(board.ok(INTERRUPT, number, &[0, 0, 4]).ended, served(1));
+        assert_eq!(board.ok(INTERRUPT, number, &[0, 0, 4]).ended, 1);
         assert_eq!(board.held_words(0), padded(&[104, 105, 106]));
         assert_eq!(board.queue_line(0), [1]);
         assert!(board.stored(0).is_empty());
@@ -338,7 +337,7 @@ fn a_receive_stores_an_ordinary_sender_behind_the_others() {
     board.wait(24, &[0, 3, 3]);
     assert_eq!(board.tables.threads[0].message, padded(&[102]));
     let outcome = board.ok(INTERRUPT, 26, &[0, 0]);
-    assert_eq!((outcome.words, outcome.ended), (padded(&[100]), served(1)));
+    assert_eq!((outcome.words, outcome.ended), (padded(&[100]), 1));
     assert_eq!(board.stored(0), [[101], [102]]);
     assert_eq!((board.held_status(0), board.held_words(0)), (0, [0; 16]));
     assert_eq!(board.queue_line(0), [1]);
@@ -385,7 +384,7 @@ fn flush_empties_and_frees_all_senders() {
     board.wait(24, &[0, 4, 1]);
     board.wait(25, &[0, FOREVER, 2]);
     let outcome = board.ok(INTERRUPT, 27, &[0]);
-    assert_eq!(outcome.ended, served(2));
+    assert_eq!(outcome.ended, 2);
     assert!(board.stored(0).is_empty());
     // Line order: the front sender 1 stood first.
     assert_eq!(board.ready(10), [2, 3, 1, 0]);
@@ -399,7 +398,7 @@ fn flush_of_an_empty_queue_leaves_receivers_waiting() {
     board.ok(STARTUP, 22, &[0, 1, 1]);
     board.wait(26, &[0, FOREVER]);
     let before = board.tables.clone();
-    assert_eq!(board.ok(INTERRUPT, 27, &[0]).ended, Ended::NONE);
+    assert_eq!(board.ok(INTERRUPT, 27, &[0]).ended, 0);
     assert_eq!(board.tables, before);
 }
 
@@ -412,7 +411,7 @@ fn queue_timeouts_tell_senders_from_receivers() {
     board.wait(26, &[0, 1]);
     board.wait(24, &[1, 1, 1]);
     board.wait(25, &[1, 1, 1]);
-    assert_eq!(board.tick().ended, timed_out(3));
+    assert_eq!(board.tick().ended, 3);
     assert_eq!([0, 1, 2].map(|thread| board.held_status(thread)), [0x0A, 0x0B, 0x0B]);
 }
 
@@ -435,7 +434,7 @@ fn set_clears_the_union_of_the_woken_requests() {
     board.wait(32, &[0, 0b1100, 3, FOREVER]); // AND and clear: not met
     board.wait(32, &[0, 0b0011, 3, FOREVER]); // AND and clear
     let outcome = board.ok(INTERRUPT, 31, &[0, 0b1_0011, 0]);
-    assert_eq!(outcome.ended, served(2));
+    assert_eq!(outcome.ended, 2);
     assert_eq!(board.tables.groups[0].flags, 0b1_0000);
     assert_eq!(board.held_words(0)[0], 0b1_0011);
     assert_eq!(board.held_words(2)[0], 0b1_0011);
@@ -448,7 +447,7 @@ fn a_waiter_without_clear_leaves_the_flags() {
         let mut board = threads(2);
         board.ok(STARTUP, 29, &[0]);
         board.wait(32, &[0, 0b0011, option, FOREVER]);
-        assert_eq!(board.ok(INTERRUPT, 31, &[0, 0b0111, 0]).ended, served(1));
+        assert_eq!(board.ok(INTERRUPT, 31, &[0, 0b0111, 0]).ended, 1);
         assert_eq!(board.tables.groups[0].flags, 0b0111);
         assert_eq!(board.held_words(0), padded(&[0b0111]));
     }
@@ -460,9 +459,9 @@ fn an_and_request_needs_every_flag() {
         let mut board = threads(2);
         board.ok(STARTUP, 29, &[0]);
         board.wait(32, &[0, 0b0011, option, FOREVER]);
-        assert_eq!(board.ok(INTERRUPT, 31, &[0, 0b0101, 0]).ended, Ended::NONE);
+        assert_eq!(board.ok(INTERRUPT, 31, &[0, 0b0101, 0]).ended, 0);
         assert_eq!(board.tables.groups[0].flags, 0b0101);
-        assert_eq!(board.ok(INTERRUPT, 31, &[0, 0b0010, 0]).ended, served(1));
+        assert_eq!(board.ok(INTERRUPT, 31, &[0, 0b0010, 0]).ended, 1);
         let left = if option == 3 { 0b0100 } else { 0b0111 };
         assert_eq!(board.tables.groups[0].flags, left);
     }
@@ -474,7 +473,7 @@ fn set_and_intersects_and_wakes_nobody() {
     board.ok(STARTUP, 29, &[0]);
     board.ok(STARTUP, 31, &[0, 0b111, 0]);
     board.wait(32, &[0, 0b1000, 0, FOREVER]);
-    assert_eq!(board.ok(INTERRUPT, 31, &[0, 0b1101, 2]).ended, Ended::NONE);
+    assert_eq!(board.ok(INTERRUPT, 31, &[0, 0b1101, 2]).ended, 0);
     assert_eq!(board.tables.groups[0].flags, 0b101);
     assert_eq!(board.group_line(0), [0]);
 }
@@ -512,7 +511,7 @@ fn a_wait_for_flags_answers_zero_words() {
         board.ok(INTERRUPT, 31, &[0, 0xFFFF_FFFF, 0]);
         board.tick();
     }
-    assert_eq!(board.tick().ended, timed_out(1));
+    assert_eq!(board.tick().ended, 1);
     assert_eq!(board.held_status(0), 0x07);
 }
 
@@ -539,11 +538,11 @@ fn a_release_hands_the_block_to_the_first_waiter() {
     board.ok(STARTUP, 35, &[0, 0]);
     board.wait(35, &[0, FOREVER]);
     board.wait(35, &[0, FOREVER]);
-    assert_eq!(board.ok(INTERRUPT, 36, &[0, 1]).ended, served(1));
+    assert_eq!(board.ok(INTERRUPT, 36, &[0, 1]).ended, 1);
     assert_eq!(board.held_words(0), padded(&[1]));
     assert_eq!(board.pool_line(0), [1]);
     // The block is in use again, by whomever.
-    assert_eq!(board.ok(INTERRUPT, 36, &[0, 1]).ended, served(1));
+    assert_eq!(board.ok(INTERRUPT, 36, &[0, 1]).ended, 1);
     assert_eq!(board.held_words(1), padded(&[1]));
 }
 

@@ -43,7 +43,7 @@ fn furnished() -> Tape {
 
 #[test]
 fn example_output() {
-    let expected = "calls 3\n0 0 0 0 0 0\n0 0 0 0 0 0\n13 0 0 0 0 0\ndone 3\n";
+    let expected = "calls 3\n0 0 0\n0 0 0\n13 0 0\ndone 3\n";
     assert_eq!(print::replay(&example().encode()), expected);
 }
 
@@ -57,9 +57,9 @@ fn inspect_of_the_example() {
     let words = " 0".repeat(16);
     let expected = format!(
         "clock 0\nrunning -\n.\n\
-         call 0 1 0 0 10 10 1\nresult 0 0 0 0 0 0{words}\nclock 0\nrunning 0\n{thread}.\n\
-         call 1 16 0 0 0 0 0\nresult 0 0 0 0 0 0{words}\nclock 0\nrunning 0\n{thread}sem 0 count=0: \n.\n\
-         call 2 18 2 0 0 0 0\nresult 13 0 0 0 0 0{words}\nclock 0\nrunning 0\n{thread}sem 0 count=0: \n.\n"
+         call 0 1 0 0 10 10 1\nresult 0 0 0{words}\nclock 0\nrunning 0\n{thread}.\n\
+         call 1 16 0 0 0 0 0\nresult 0 0 0{words}\nclock 0\nrunning 0\n{thread}sem 0 count=0: \n.\n\
+         call 2 18 2 0 0 0 0\nresult 13 0 0{words}\nclock 0\nrunning 0\n{thread}sem 0 count=0: \n.\n"
     );
     assert_eq!(print::inspect(&example().encode()), expected);
 }
@@ -69,7 +69,7 @@ fn inspect_of_every_kind() {
     let text = print::inspect(&furnished().encode());
     let last = text.rsplit("call 14 99 7 1 2 3 4\n").next().unwrap();
     let expected = "\
-result 260 - 0 0 0 0 0 0 0 0 0 0 0 0 0 0 0 0 0 0 0 0
+result 260 - 0 0 0 0 0 0 0 0 0 0 0 0 0 0 0 0 0
 clock 0
 running -
 thread 0 state=5 prio=10 thr=10 mark=0 held=0 status=257 wait=timed ticks=7 words=0,0,0,0,0,0,0,0,0,0,0,0,0,0,0,0 obj=1 front=0 req=0 opt=0 msg=8,9,0,0,0,0,0,0,0,0,0,0,0,0,0,0

@@ -1,7 +1,7 @@
 //! Helpers shared by the tests.
 #![allow(dead_code)]
 
-use ordinary::{Ended, Outcome, Status, Tables, ThreadNo};
+use ordinary::{Outcome, Status, Tables, ThreadNo};
 
 pub const STARTUP: u32 = 0;
 pub const INTERRUPT: u32 = 1;
@@ -126,28 +126,8 @@ fn check_frame(before: &Tables, after: &Tables, outcome: &Outcome) {
     if !outcome.status.is_carried_out() {
         assert_eq!(before, after);
         assert_eq!(outcome.words, [0; 16]);
-        assert_eq!(outcome.ended, Ended::NONE);
+        assert_eq!(outcome.ended, 0);
     }
-}
-
-/// So many waits served, and none ended otherwise.
-pub fn served(served: u32) -> Ended {
-    Ended { served, ..Ended::NONE }
-}
-
-/// So many waits timed out, and none ended otherwise.
-pub fn timed_out(timed_out: u32) -> Ended {
-    Ended { timed_out, ..Ended::NONE }
-}
-
-/// So many waits aborted, and none ended otherwise.
-pub fn aborted(aborted: u32) -> Ended {
-    Ended { aborted, ..Ended::NONE }
-}
-
-/// So many waits whose object was deleted, and none ended otherwise.
-pub fn deleted(deleted: u32) -> Ended {
-    Ended { deleted, ..Ended::NONE }
 }
 
 /// Sixteen words that begin with `words`.
