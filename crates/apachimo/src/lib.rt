@@ -11,6 +11,7 @@ ghost use Rattle.kernel.specs.General.{call};
 ghost use Rattle.codec.specs.Layout.{state_bytes};
 ghost use Rattle.codec.specs.State.{kernel_of};
 ghost use Rattle.apachimo.specs.Library.{block_refusal, start_status, start_block, sound_status, request_of, call_reply, call_block, run_refusal, run_result, run_block, run_replies};
+ghost use Rattle.apachimo.specs.Refusals.{refusal_status, result_status};
 
 use calls::call::Request;
 use calls::status::{SIZE_ERROR, SUCCESS, SUSPEND_LIFTED, TABLES_UNSOUND, TAPE_REFUSED, WAITING};
@@ -27,46 +28,63 @@ pub struct Run {
     pub carried: u32,
 }
 
-// The reason to refuse a block, 0 where there is none.
-fn block_refusal(state: &[u8]) -> u32
-    ensures { result ≡ block_refusal state.now }
+// Why a block or a run is refused: its size or its room, no tape, or flags that are neither 0 nor 1.
+#[derive(Clone, Copy)]
+enum Refused {
+    Size,
+    Tape,
+    Unsound,
+}
+
+impl From<Refused> for u32 {
+    ghost from_gives = { λ e status. status ≡ refusal_status e };
+
+    fn from(refused: Refused) -> u32 {
+        match refused {
+            Refused::Size => SIZE_ERROR,
+            Refused::Tape => TAPE_REFUSED,
+            Refused::Unsound => TABLES_UNSOUND,
+        }
+    }
+}
+
+// Refuses bytes that are no block, and a block with other flags than 0 and 1.
+fn block_refusal(state: &[u8]) -> Result<(), Refused>
+    ensures { result_status result ≡ block_refusal state.now }
 {
     if state.len() != layout::STATE_BYTES {
-        return SIZE_ERROR;
+        return Err(Refused::Size);
     }
     if flags::are_fit(state) {
-        0
+        Ok(())
     } else {
-        TABLES_UNSOUND
+        Err(Refused::Unsound)
     }
 }
 
 // Whether a call with this status was carried out.
+#[tactic(auto, unfolding(kernel::specs::Claims::doneb))]
 fn is_done(status: u32) -> bool
     ensures { result ≡ doneb status }
 {
-    (status == SUCCESS) | (status == SUSPEND_LIFTED) | (status == WAITING)
+    matches!(status, SUCCESS | SUSPEND_LIFTED | WAITING)
 }
 
-// The reason to refuse a run, 0 where there is none.
-fn run_refusal(state: &[u8], tape: &[u8], most: u32, room: usize) -> u32
-    ensures { result ≡ run_refusal state.now tape.now most room }
+// Refuses a run whose block, tape or room for replies is not as it should be.
+fn run_refusal(state: &[u8], tape: &[u8], most: u32, room: usize) -> Result<(), Refused>
+    ensures { result_status result ≡ run_refusal state.now tape.now most room }
 {
     if state.len() != layout::STATE_BYTES {
-        return SIZE_ERROR;
+        return Err(Refused::Size);
     }
     if tape::is_refused(tape) {
-        return TAPE_REFUSED;
+        return Err(Refused::Tape);
     }
     let n = tape::wanted(tape, most);
     if room < REPLY_WORDS * (n as usize) {
-        return SIZE_ERROR;
+        return Err(Refused::Size);
     }
-    if flags::are_fit(state) {
-        0
-    } else {
-        TABLES_UNSOUND
-    }
+    block_refusal(state)
 }
 
 // How many bytes a block of tables has.
@@ -92,9 +110,8 @@ pub fn apachimo_start(state: &mut [u8]) -> u32
 pub fn apachimo_is_sound(state: &[u8]) -> u32
     ensures { result ≡ sound_status state.now }
 {
-    let reason = block_refusal(state);
-    if reason != 0 {
-        return reason;
+    if let Err(refused) = block_refusal(state) {
+        return refused.into();
     }
     let k = reading::kernel_of(state);
     if k.is_sound() {
@@ -105,7 +122,7 @@ pub fn apachimo_is_sound(state: &[u8]) -> u32
 }
 
 // One call: its number, the caller's kind, four arguments, and the lent words that a send takes its message from. The
-// tables are written back where the call was carried out, and not touched where it was refused.
+// tables are written back where the call was carried out, and not touched where it was refused. The arguments are words of their own, as C passes them.
 pub fn apachimo_call(
     state: &mut [u8],
     number: u32,
@@ -119,9 +136,8 @@ pub fn apachimo_call(
     ensures value { result ≡ call_reply state.old (call (kernel_of state.old) (request_of number caller a b c d) messages.now) }
     ensures state_after { state.new ≡ call_block state.old (call (kernel_of state.old) (request_of number caller a b c d) messages.now) }
 {
-    let reason = block_refusal(state);
-    if reason != 0 {
-        return refusal(reason, ThreadId(NOBODY));
+    if let Err(refused) = block_refusal(state) {
+        return refusal(refused.into(), ThreadId(NOBODY));
     }
     let k = reading::kernel_of(state);
     let request = Request {
@@ -133,14 +149,7 @@ pub fn apachimo_call(
         d,
     };
     let answer = k.call(request, messages);
-    let words = answer.words;
-    let next = answer.next;
-    let reply = Reply {
-        status: answer.status,
-        words,
-        next: next.0 as u32,
-        ended: answer.ended,
-    };
+    let reply = Reply::from(answer);
     if is_done(answer.status) {
         writing::put_answer(state, answer);
     }
@@ -154,19 +163,20 @@ pub fn apachimo_run(state: &mut [u8], tape: &[u8], most: u32, replies: &mut [u32
     ensures state_after { state.new ≡ run_block state.old tape.now most (length replies.old) }
     ensures replies_after { replies.new ≡ run_replies state.old tape.now most replies.old }
 {
-    let reason = run_refusal(state, tape, most, replies.len());
-    if reason == TABLES_UNSOUND {
-        let n = tape::wanted(tape, most);
-        put_replies(replies, n, refusal(reason, ThreadId(NOBODY)));
-        return Run {
-            status: reason,
-            carried: n,
-        };
-    }
-    if reason != 0 {
-        return Run {
-            status: reason,
-            carried: 0,
+    if let Err(refused) = run_refusal(state, tape, most, replies.len()) {
+        return match refused {
+            Refused::Unsound => {
+                let n = tape::wanted(tape, most);
+                put_replies(replies, n, refusal(TABLES_UNSOUND, ThreadId(NOBODY)));
+                Run {
+                    status: TABLES_UNSOUND,
+                    carried: n,
+                }
+            }
+            Refused::Size | Refused::Tape => Run {
+                status: refused.into(),
+                carried: 0,
+            },
         };
     }
     let k = reading::kernel_of(state);
@@ -176,8 +186,7 @@ pub fn apachimo_run(state: &mut [u8], tape: &[u8], most: u32, replies: &mut [u32
         carried: ran.carried,
     };
     if ran.status == SUCCESS {
-        let after = ran.kernel;
-        writing::put_kernel(state, after);
+        writing::put_kernel(state, ran.kernel);
     }
     result
 }

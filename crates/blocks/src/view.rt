@@ -1,5 +1,5 @@
 // The block view: a used block as a part of the lent pool area, to be written.
-ghost use Rattle.std.specs.Prelude.{◌≡◌, true, min, length};
+ghost use Rattle.std.specs.Prelude.{◌≡◌, true, length};
 ghost use Rattle.blocks.specs.Pools.{block_start};
 ghost use Rattle.blocks.specs.Views.{viewedb, extent_of, viewed, onwards, written};
 
@@ -43,9 +43,7 @@ impl Pool {
         ensures lies { viewedb self block (length area.old) ≡ true → result.ref_ptr ≡ onwards (block_start self block) area.entry.ref_ptr }
     {
         let e = self.block_extent(block, area.len());
-        let start = e.start;
-        let end = start + e.length;
-        &mut area[start..end]
+        &mut area[e.start..e.start + e.length]
     }
 
     // Writes `bytes` to the front of block `block`, as many as it has room for, and nothing where it is not shown.
@@ -53,19 +51,7 @@ impl Pool {
         ensures { area.new ≡ written self block bytes.now area.old }
     {
         let e = self.block_extent(block, area.len());
-        let start = e.start;
-        let n = lesser(bytes.len(), e.length);
-        let mut i: usize = 0;
-        while i < n {
-            area[start + i] = bytes[i];
-            i += 1;
-        }
+        let n = bytes.len().min(e.length);
+        area[e.start..e.start + n].copy_from_slice(&bytes[..n]);
     }
-}
-
-// The smaller of two numbers.
-fn lesser(a: usize, b: usize) -> usize
-    ensures { result ≡ min a b }
-{
-    if a < b { a } else { b }
 }

@@ -1,5 +1,5 @@
 -- The calls: numbers, callers and arguments (rule 2.1).
-use Rattle.std.specs.Prelude.{if◌then◌else◌, ℕ, min, eqb, ltb}
+use Rattle.std.specs.Prelude.{if◌then◌else◌, ℕ, min, eqb, ltb, Option, Some, None}
 use Rattle.numbers.specs.Numbers.{slots, thread_number, semaphore_number, queue_number, group_number, pool_number}
 use Rattle.calls.specs.declared.call.Call.TheVariants.{
   ThreadCreate,
@@ -85,57 +85,56 @@ use Rattle.calls.specs.Services.{
 }
 use Rattle.calls.specs.Callers.{thread}
 use Rattle.calls.specs.declared.call.Request.{Request}
-use Rattle.calls.specs.declared.call.Decoded.{Decoded}
-use Rattle.calls.specs.declared.call.Decoded.TheVariants.{Known, Unknown}
+use Rattle.calls.specs.declared.call.Call.{Call}
 
 -- rules 1.5, 3.15: blocks are numbered from 0 and no pool has more than 64, so every number from 64 on is taken for 64
 abbrev pub block_number : ℕ → ℕ
 block_number b = min b slots
 
 -- rule 2.1: the call of each number; arguments that it does not use are left out
-unfoldable pub known_call : ℕ → ℕ → ℕ → ℕ → ℕ → Decoded
+unfoldable pub known_call : ℕ → ℕ → ℕ → ℕ → ℕ → Option Call
 known_call n a b c d =
-    if eqb n thread_create then Known (ThreadCreate (thread_number a) b c d)
-    else if eqb n thread_delete then Known (ThreadDelete (thread_number a))
-    else if eqb n thread_resume then Known (ThreadResume (thread_number a))
-    else if eqb n thread_suspend then Known (ThreadSuspend (thread_number a))
-    else if eqb n thread_terminate then Known (ThreadTerminate (thread_number a))
-    else if eqb n thread_reset then Known (ThreadReset (thread_number a))
-    else if eqb n thread_finish then Known ThreadFinish
-    else if eqb n thread_relinquish then Known ThreadRelinquish
-    else if eqb n thread_sleep then Known (ThreadSleep a)
-    else if eqb n thread_wait_abort then Known (ThreadWaitAbort (thread_number a))
-    else if eqb n thread_priority_change then Known (ThreadPriorityChange (thread_number a) b)
-    else if eqb n thread_preemption_change then Known (ThreadPreemptionChange (thread_number a) b)
-    else if eqb n time_get then Known TimeGet
-    else if eqb n time_set then Known (TimeSet a)
-    else if eqb n tick then Known Tick
-    else if eqb n semaphore_create then Known (SemaphoreCreate (semaphore_number a) b)
-    else if eqb n semaphore_delete then Known (SemaphoreDelete (semaphore_number a))
-    else if eqb n semaphore_get then Known (SemaphoreGet (semaphore_number a) b)
-    else if eqb n semaphore_put then Known (SemaphorePut (semaphore_number a))
-    else if eqb n semaphore_ceiling_put then Known (SemaphoreCeilingPut (semaphore_number a) b)
-    else if eqb n semaphore_prioritize then Known (SemaphorePrioritize (semaphore_number a))
-    else if eqb n queue_create then Known (QueueCreate (queue_number a) b c)
-    else if eqb n queue_delete then Known (QueueDelete (queue_number a))
-    else if eqb n queue_send then Known (QueueSend (queue_number a) b c)
-    else if eqb n queue_front_send then Known (QueueFrontSend (queue_number a) b c)
-    else if eqb n queue_receive then Known (QueueReceive (queue_number a) b)
-    else if eqb n queue_flush then Known (QueueFlush (queue_number a))
-    else if eqb n queue_prioritize then Known (QueuePrioritize (queue_number a))
-    else if eqb n event_flags_create then Known (EventFlagsCreate (group_number a))
-    else if eqb n event_flags_delete then Known (EventFlagsDelete (group_number a))
-    else if eqb n event_flags_set then Known (EventFlagsSet (group_number a) b c)
-    else if eqb n event_flags_get then Known (EventFlagsGet (group_number a) b c d)
-    else if eqb n block_pool_create then Known (BlockPoolCreate (pool_number a) b c)
-    else if eqb n block_pool_delete then Known (BlockPoolDelete (pool_number a))
-    else if eqb n block_allocate then Known (BlockAllocate (pool_number a) b)
-    else if eqb n block_release then Known (BlockRelease (pool_number a) (block_number b))
-    else if eqb n block_pool_prioritize then Known (BlockPoolPrioritize (pool_number a))
-    else if eqb n thread_state_read then Known (ThreadStateRead (thread_number a))
-    else if eqb n thread_words_read then Known (ThreadWordsRead (thread_number a))
-    else Unknown
+    if eqb n thread_create then Some (ThreadCreate (thread_number a) b c d)
+    else if eqb n thread_delete then Some (ThreadDelete (thread_number a))
+    else if eqb n thread_resume then Some (ThreadResume (thread_number a))
+    else if eqb n thread_suspend then Some (ThreadSuspend (thread_number a))
+    else if eqb n thread_terminate then Some (ThreadTerminate (thread_number a))
+    else if eqb n thread_reset then Some (ThreadReset (thread_number a))
+    else if eqb n thread_finish then Some ThreadFinish
+    else if eqb n thread_relinquish then Some ThreadRelinquish
+    else if eqb n thread_sleep then Some (ThreadSleep a)
+    else if eqb n thread_wait_abort then Some (ThreadWaitAbort (thread_number a))
+    else if eqb n thread_priority_change then Some (ThreadPriorityChange (thread_number a) b)
+    else if eqb n thread_preemption_change then Some (ThreadPreemptionChange (thread_number a) b)
+    else if eqb n time_get then Some TimeGet
+    else if eqb n time_set then Some (TimeSet a)
+    else if eqb n tick then Some Tick
+    else if eqb n semaphore_create then Some (SemaphoreCreate (semaphore_number a) b)
+    else if eqb n semaphore_delete then Some (SemaphoreDelete (semaphore_number a))
+    else if eqb n semaphore_get then Some (SemaphoreGet (semaphore_number a) b)
+    else if eqb n semaphore_put then Some (SemaphorePut (semaphore_number a))
+    else if eqb n semaphore_ceiling_put then Some (SemaphoreCeilingPut (semaphore_number a) b)
+    else if eqb n semaphore_prioritize then Some (SemaphorePrioritize (semaphore_number a))
+    else if eqb n queue_create then Some (QueueCreate (queue_number a) b c)
+    else if eqb n queue_delete then Some (QueueDelete (queue_number a))
+    else if eqb n queue_send then Some (QueueSend (queue_number a) b c)
+    else if eqb n queue_front_send then Some (QueueFrontSend (queue_number a) b c)
+    else if eqb n queue_receive then Some (QueueReceive (queue_number a) b)
+    else if eqb n queue_flush then Some (QueueFlush (queue_number a))
+    else if eqb n queue_prioritize then Some (QueuePrioritize (queue_number a))
+    else if eqb n event_flags_create then Some (EventFlagsCreate (group_number a))
+    else if eqb n event_flags_delete then Some (EventFlagsDelete (group_number a))
+    else if eqb n event_flags_set then Some (EventFlagsSet (group_number a) b c)
+    else if eqb n event_flags_get then Some (EventFlagsGet (group_number a) b c d)
+    else if eqb n block_pool_create then Some (BlockPoolCreate (pool_number a) b c)
+    else if eqb n block_pool_delete then Some (BlockPoolDelete (pool_number a))
+    else if eqb n block_allocate then Some (BlockAllocate (pool_number a) b)
+    else if eqb n block_release then Some (BlockRelease (pool_number a) (block_number b))
+    else if eqb n block_pool_prioritize then Some (BlockPoolPrioritize (pool_number a))
+    else if eqb n thread_state_read then Some (ThreadStateRead (thread_number a))
+    else if eqb n thread_words_read then Some (ThreadWordsRead (thread_number a))
+    else None
 
 -- rules 2.1, 2.6: a request is for a known call, or it is unknown for its number or its caller
-unfoldable pub decoded : Request → Decoded
-decoded q = if ltb thread q.caller then Unknown else known_call q.number q.a q.b q.c q.d
+unfoldable pub decoded : Request → Option Call
+decoded q = if ltb thread q.caller then None else known_call q.number q.a q.b q.c q.d

@@ -1,5 +1,5 @@
--- What the functions of refusal.rt return: for each call its own part of the table of refusals as a chain, 0 where no reason holds. Nothing
--- here needs to be believed: that each chain is what the table says is proved, in the kernel's laws.
+-- What the functions of refusal.rt return, as numbers (`reason_of` in Refusals.antt): for each call its own part of the table of refusals as
+-- a chain, 0 where no reason holds. Nothing here needs to be believed: that each chain is what the table says is proved, in the kernel's laws.
 use Rattle.std.specs.Prelude.{if◌then◌else◌, Bool, ◌&&◌, ◌||◌, not, ℕ, ◌+◌, eqb, ltb, leb}
 use Rattle.numbers.specs.Numbers.{nobody, priorities, semaphores, queues, groups, pools}
 use Rattle.scheduler.specs.declared.thread.Thread.{Thread}

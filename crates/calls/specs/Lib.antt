@@ -4,4 +4,5 @@ pub mod Services
 pub mod Callers
 pub mod Calls
 pub mod Chains
+pub mod Refusals
 pub mod Messages

@@ -3,11 +3,9 @@ ghost use Rattle.std.specs.Prelude.{◌≡◌, min};
 ghost use Rattle.numbers.specs.Numbers.{slots};
 ghost use Rattle.calls.specs.Calls.{decoded};
 
-use numbers::{
-    GroupId, NO_BLOCK, PoolId, QueueId, SLOTS, SemaphoreId, ThreadId, group_id, pool_id, queue_id,
-    semaphore_id, thread_id,
-};
+use numbers::{GroupId, PoolId, QueueId, SLOTS, SemaphoreId, ThreadId};
 
+// Who calls is a number and no enum: the clauses speak of every number, and a narrower type would ask more of callers.
 pub const STARTUP: u32 = 0;
 
 pub const INTERRUPT: u32 = 1;
@@ -69,85 +67,82 @@ pub enum Call {
     ThreadWordsRead(ThreadId),
 }
 
-// A request is either a known call or a refusal.
-#[derive(Clone, Copy)]
-pub enum Decoded {
-    Known(Call),
-    Unknown,
-}
-
 // A block's number as a byte; every number past the last block that a pool can have stands for none.
 pub fn block_number(b: u32) -> u8
     ensures { result ≡ min b slots }
 {
-    if b < SLOTS as u32 { b as u8 } else { NO_BLOCK }
+    b.min(SLOTS as u32) as u8
 }
 
 // A request's option as a byte; every option past the last stands for the one behind it.
 pub fn option_of(option: u32) -> u8
     ensures { result ≡ min option 4 }
 {
-    if option < 4 { option as u8 } else { 4 }
+    option.min(4) as u8
 }
 
-// The call that a request is for.
-pub fn decode(request: Request) -> Decoded
+// The call that a request is for; none where its number or its caller is unknown.
+#[tactic(auto, unfolding(crate::specs::Calls::decoded, crate::specs::Calls::known_call))]
+pub fn decode(request: Request) -> Option<Call>
     ensures { result ≡ decoded request }
 {
-    if THREAD < request.caller {
-        return Decoded::Unknown;
+    let Request {
+        number,
+        caller,
+        a,
+        b,
+        c,
+        d,
+    } = request;
+    if THREAD < caller {
+        return None;
     }
-    let number = request.number;
-    let a = request.a;
-    let b = request.b;
-    let c = request.c;
-    let d = request.d;
-    let t = thread_id(a);
-    let s = semaphore_id(a);
-    let q = queue_id(a);
-    let g = group_id(a);
-    let p = pool_id(a);
+    let t = ThreadId::from(a);
+    let s = SemaphoreId::from(a);
+    let q = QueueId::from(a);
+    let g = GroupId::from(a);
+    let p = PoolId::from(a);
     let n = block_number(b);
-    match number {
-        1 => Decoded::Known(Call::ThreadCreate(t, b, c, d)),
-        2 => Decoded::Known(Call::ThreadDelete(t)),
-        3 => Decoded::Known(Call::ThreadResume(t)),
-        4 => Decoded::Known(Call::ThreadSuspend(t)),
-        5 => Decoded::Known(Call::ThreadTerminate(t)),
-        6 => Decoded::Known(Call::ThreadReset(t)),
-        7 => Decoded::Known(Call::ThreadFinish),
-        8 => Decoded::Known(Call::ThreadRelinquish),
-        9 => Decoded::Known(Call::ThreadSleep(a)),
-        10 => Decoded::Known(Call::ThreadWaitAbort(t)),
-        11 => Decoded::Known(Call::ThreadPriorityChange(t, b)),
-        12 => Decoded::Known(Call::ThreadPreemptionChange(t, b)),
-        13 => Decoded::Known(Call::TimeGet),
-        14 => Decoded::Known(Call::TimeSet(a)),
-        15 => Decoded::Known(Call::Tick),
-        16 => Decoded::Known(Call::SemaphoreCreate(s, b)),
-        17 => Decoded::Known(Call::SemaphoreDelete(s)),
-        18 => Decoded::Known(Call::SemaphoreGet(s, b)),
-        19 => Decoded::Known(Call::SemaphorePut(s)),
-        20 => Decoded::Known(Call::SemaphoreCeilingPut(s, b)),
-        21 => Decoded::Known(Call::SemaphorePrioritize(s)),
-        22 => Decoded::Known(Call::QueueCreate(q, b, c)),
-        23 => Decoded::Known(Call::QueueDelete(q)),
-        24 => Decoded::Known(Call::QueueSend(q, b, c)),
-        25 => Decoded::Known(Call::QueueFrontSend(q, b, c)),
-        26 => Decoded::Known(Call::QueueReceive(q, b)),
-        27 => Decoded::Known(Call::QueueFlush(q)),
-        28 => Decoded::Known(Call::QueuePrioritize(q)),
-        29 => Decoded::Known(Call::EventFlagsCreate(g)),
-        30 => Decoded::Known(Call::EventFlagsDelete(g)),
-        31 => Decoded::Known(Call::EventFlagsSet(g, b, c)),
-        32 => Decoded::Known(Call::EventFlagsGet(g, b, c, d)),
-        33 => Decoded::Known(Call::BlockPoolCreate(p, b, c)),
-        34 => Decoded::Known(Call::BlockPoolDelete(p)),
-        35 => Decoded::Known(Call::BlockAllocate(p, b)),
-        36 => Decoded::Known(Call::BlockRelease(p, n)),
-        37 => Decoded::Known(Call::BlockPoolPrioritize(p)),
-        38 => Decoded::Known(Call::ThreadStateRead(t)),
-        39 => Decoded::Known(Call::ThreadWordsRead(t)),
-        _ => Decoded::Unknown,
-    }
+    Some(match number {
+        1 => Call::ThreadCreate(t, b, c, d),
+        2 => Call::ThreadDelete(t),
+        3 => Call::ThreadResume(t),
+        4 => Call::ThreadSuspend(t),
+        5 => Call::ThreadTerminate(t),
+        6 => Call::ThreadReset(t),
+        7 => Call::ThreadFinish,
+        8 => Call::ThreadRelinquish,
+        9 => Call::ThreadSleep(a),
+        10 => Call::ThreadWaitAbort(t),
+        11 => Call::ThreadPriorityChange(t, b),
+        12 => Call::ThreadPreemptionChange(t, b),
+        13 => Call::TimeGet,
+        14 => Call::TimeSet(a),
+        15 => Call::Tick,
+        16 => Call::SemaphoreCreate(s, b),
+        17 => Call::SemaphoreDelete(s),
+        18 => Call::SemaphoreGet(s, b),
+        19 => Call::SemaphorePut(s),
+        20 => Call::SemaphoreCeilingPut(s, b),
+        21 => Call::SemaphorePrioritize(s),
+        22 => Call::QueueCreate(q, b, c),
+        23 => Call::QueueDelete(q),
+        24 => Call::QueueSend(q, b, c),
+        25 => Call::QueueFrontSend(q, b, c),
+        26 => Call::QueueReceive(q, b),
+        27 => Call::QueueFlush(q),
+        28 => Call::QueuePrioritize(q),
+        29 => Call::EventFlagsCreate(g),
+        30 => Call::EventFlagsDelete(g),
+        31 => Call::EventFlagsSet(g, b, c),
+        32 => Call::EventFlagsGet(g, b, c, d),
+        33 => Call::BlockPoolCreate(p, b, c),
+        34 => Call::BlockPoolDelete(p),
+        35 => Call::BlockAllocate(p, b),
+        36 => Call::BlockRelease(p, n),
+        37 => Call::BlockPoolPrioritize(p),
+        38 => Call::ThreadStateRead(t),
+        39 => Call::ThreadWordsRead(t),
+        _ => return None,
+    })
 }

@@ -1,4 +1,7 @@
 // What a thread holds beside its scheduling record: the status and words that its last wait left it, and what it waits for.
+
+#![tactic(auto, unfolding(crate::specs::Held::holding, crate::specs::Held::sending, crate::specs::Held::requesting, crate::specs::Held::held_words, crate::specs::Held::message_of))]
+
 ghost use Rattle.std.specs.Prelude.{◌≡◌};
 ghost use Rattle.calls.specs.Held.{holding, sending, requesting, held_words, message_of};
 
@@ -7,7 +10,8 @@ use numbers::MESSAGE_WORDS;
 
 // `words` are those that the last wait left or, of a waiting sender, its message: no thread has both. `sending` and `front` are a waiting
 // sender's, `request` and `option` those of a thread that waits for flags. The bytes stand behind the words, so that a record is copied by
-// words throughout.
+// words throughout. They are flags and no Option or enum around what they speak of: damaged tables may hold a message without `sending`, or both
+// of a sender's and a requester's fields, which `held_fitb` refuses.
 #[derive(Clone, Copy)]
 pub struct Held {
     pub status: u32,
@@ -38,12 +42,9 @@ impl Held {
         ensures { result ≡ sending front message }
     {
         Held {
-            status: WAITING,
-            words: message,
             sending: true,
             front,
-            request: 0,
-            option: 0,
+            ..Held::of(WAITING, message)
         }
     }
 
@@ -52,12 +53,9 @@ impl Held {
         ensures { result ≡ requesting request option }
     {
         Held {
-            status: WAITING,
-            words: [0; MESSAGE_WORDS],
-            sending: false,
-            front: false,
             request,
             option,
+            ..Held::of(WAITING, [0; MESSAGE_WORDS])
         }
     }
 

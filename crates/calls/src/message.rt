@@ -8,15 +8,9 @@ use numbers::MESSAGE_WORDS;
 pub fn message_in(area: &[u32], index: u32, words: u8) -> [u32; MESSAGE_WORDS]
     ensures { result ≡ message_in area.now index words }
 {
-    let start = index as usize;
-    let n = words as usize;
-    let mut message: [u32; MESSAGE_WORDS] = [0; MESSAGE_WORDS];
-    let mut i: usize = 0;
-    while i < MESSAGE_WORDS {
-        if (i < n) & (start + i < area.len()) {
-            message[i] = area[start + i];
-        }
-        i += 1;
-    }
+    let start = area.len().min(index as usize);
+    let count = (words as usize).min(MESSAGE_WORDS).min(area.len() - start);
+    let mut message = [0; MESSAGE_WORDS];
+    message[..count].copy_from_slice(&area[start..start + count]);
     message
 }

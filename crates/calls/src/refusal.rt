@@ -1,6 +1,11 @@
-// For each call the first reason that refuses it, in the order of the table of refusals; 0 where there is none.
+// For each call the first reason that refuses it, in the order of the table of refusals. `caller` is a number, as in a
+// request: the clauses speak of every number, and a narrower type would ask more of callers.
+
+#![tactic(auto, unfolding(crate::specs::Chains::unless, crate::specs::Chains::create_refusal, crate::specs::Chains::delete_refusal, crate::specs::Chains::resume_refusal, crate::specs::Chains::suspend_refusal, crate::specs::Chains::terminate_refusal, crate::specs::Chains::reset_refusal, crate::specs::Chains::thread_only_refusal, crate::specs::Chains::abort_refusal, crate::specs::Chains::priority_refusal, crate::specs::Chains::preemption_refusal, crate::specs::Chains::tick_refusal, crate::specs::Chains::read_refusal, crate::specs::Chains::semaphore_create_refusal, crate::specs::Chains::semaphore_delete_refusal, crate::specs::Chains::semaphore_get_refusal, crate::specs::Chains::put_refusal, crate::specs::Chains::ceiling_refusal, crate::specs::Chains::semaphore_refusal, crate::specs::Chains::queue_create_refusal, crate::specs::Chains::queue_delete_refusal, crate::specs::Chains::send_refusal, crate::specs::Chains::receive_refusal, crate::specs::Chains::queue_refusal, crate::specs::Chains::group_create_refusal, crate::specs::Chains::group_delete_refusal, crate::specs::Chains::set_refusal, crate::specs::Chains::get_refusal, crate::specs::Chains::pool_create_refusal, crate::specs::Chains::pool_delete_refusal, crate::specs::Chains::allocate_refusal, crate::specs::Chains::release_refusal, crate::specs::Chains::pool_refusal), using(crate::proofs::Laws::Refusals::status_above, crate::proofs::Laws::Refusals::first_holds, crate::proofs::Laws::Refusals::first_fails))]
+
 ghost use Rattle.std.specs.Prelude.{◌≡◌};
-ghost use Rattle.calls.specs.Chains.{nobody_runsb, unless, first_of, create_refusal, delete_refusal, resume_refusal, suspend_refusal, terminate_refusal, reset_refusal, thread_only_refusal, abort_refusal, priority_refusal, preemption_refusal, tick_refusal, read_refusal, semaphore_create_refusal, semaphore_delete_refusal, semaphore_get_refusal, put_refusal, ceiling_refusal, semaphore_refusal, queue_create_refusal, queue_delete_refusal, send_refusal, receive_refusal, queue_refusal, group_create_refusal, group_delete_refusal, set_refusal, get_refusal, pool_create_refusal, pool_delete_refusal, allocate_refusal, release_refusal, pool_refusal};
+ghost use Rattle.calls.specs.Refusals.{status_of, reason_of};
+ghost use Rattle.calls.specs.Chains.{nobody_runsb, unless, create_refusal, delete_refusal, resume_refusal, suspend_refusal, terminate_refusal, reset_refusal, thread_only_refusal, abort_refusal, priority_refusal, preemption_refusal, tick_refusal, read_refusal, semaphore_create_refusal, semaphore_delete_refusal, semaphore_get_refusal, put_refusal, ceiling_refusal, semaphore_refusal, queue_create_refusal, queue_delete_refusal, send_refusal, receive_refusal, queue_refusal, group_create_refusal, group_delete_refusal, set_refusal, get_refusal, pool_create_refusal, pool_delete_refusal, allocate_refusal, release_refusal, pool_refusal};
 
 use super::call::{INTERRUPT, STARTUP, THREAD, option_of};
 use super::status::{
@@ -19,18 +24,76 @@ use objects::queue::{Queue, sizes_fit};
 use objects::semaphore::{LARGEST_COUNT, Semaphore};
 use scheduler::thread::{COMPLETED, SUSPENDED, TERMINATED, Thread};
 
-// No reason where `fine` holds, else the status.
-fn unless(fine: bool, status: u32) -> u32
-    ensures { result ≡ unless fine status }
-{
-    if fine { 0 } else { status }
+// The reasons that refuse a call, by ThreadX's names.
+#[derive(Clone, Copy, PartialEq, Eq)]
+pub enum Refusal {
+    ThreadError,
+    PriorityError,
+    ThreshError,
+    StartError,
+    CallerError,
+    DeleteError,
+    ResumeError,
+    SuspendError,
+    WaitAbortError,
+    NotDone,
+    SemaphoreError,
+    WaitError,
+    NoInstance,
+    CeilingExceeded,
+    InvalidCeiling,
+    QueueError,
+    SizeError,
+    PtrError,
+    QueueFull,
+    QueueEmpty,
+    GroupError,
+    OptionError,
+    NoEvents,
+    PoolError,
+    NoMemory,
 }
 
-// The first reason of two.
-fn first(a: u32, b: u32) -> u32
-    ensures { result ≡ first_of a b }
+// The status of a reason.
+impl From<Refusal> for u32 {
+    ghost from_gives = { λ r status. status ≡ status_of r };
+
+    fn from(refusal: Refusal) -> u32 {
+        match refusal {
+            Refusal::ThreadError => THREAD_ERROR,
+            Refusal::PriorityError => PRIORITY_ERROR,
+            Refusal::ThreshError => THRESH_ERROR,
+            Refusal::StartError => START_ERROR,
+            Refusal::CallerError => CALLER_ERROR,
+            Refusal::DeleteError => DELETE_ERROR,
+            Refusal::ResumeError => RESUME_ERROR,
+            Refusal::SuspendError => SUSPEND_ERROR,
+            Refusal::WaitAbortError => WAIT_ABORT_ERROR,
+            Refusal::NotDone => NOT_DONE,
+            Refusal::SemaphoreError => SEMAPHORE_ERROR,
+            Refusal::WaitError => WAIT_ERROR,
+            Refusal::NoInstance => NO_INSTANCE,
+            Refusal::CeilingExceeded => CEILING_EXCEEDED,
+            Refusal::InvalidCeiling => INVALID_CEILING,
+            Refusal::QueueError => QUEUE_ERROR,
+            Refusal::SizeError => SIZE_ERROR,
+            Refusal::PtrError => PTR_ERROR,
+            Refusal::QueueFull => QUEUE_FULL,
+            Refusal::QueueEmpty => QUEUE_EMPTY,
+            Refusal::GroupError => GROUP_ERROR,
+            Refusal::OptionError => OPTION_ERROR,
+            Refusal::NoEvents => NO_EVENTS,
+            Refusal::PoolError => POOL_ERROR,
+            Refusal::NoMemory => NO_MEMORY,
+        }
+    }
+}
+
+// The reason, unless the test holds.
+fn check(fine: bool, refusal: Refusal) -> Result<(), Refusal>
+    ensures { reason_of result ≡ unless fine (status_of refusal) }
 {
-    if a == 0 { b } else { a }
+    if fine { Ok(()) } else { Err(refusal) }
 }
 
 // Whether a thread calls and nobody runs.
@@ -47,338 +110,282 @@ pub fn create(
     threshold: u32,
     start: u32,
     caller: u32,
-) -> u32
-    ensures { result ≡ create_refusal t.0 th priority threshold start caller }
+) -> Result<(), Refusal>
+    ensures { reason_of result ≡ create_refusal t.0 th priority threshold start caller }
 {
-    first(
-        unless((t.0 < NOBODY) & !th.created, THREAD_ERROR),
-        first(
-            unless(priority < PRIORITIES, PRIORITY_ERROR),
-            first(
-                unless(threshold <= priority, THRESH_ERROR),
-                first(
-                    unless(start < 2, START_ERROR),
-                    unless((caller == STARTUP) | (caller == THREAD), CALLER_ERROR),
-                ),
-            ),
-        ),
+    check((t.0 < NOBODY) & !th.created, Refusal::ThreadError)?;
+    check(priority < PRIORITIES, Refusal::PriorityError)?;
+    check(threshold <= priority, Refusal::ThreshError)?;
+    check(start < 2, Refusal::StartError)?;
+    check(
+        (caller == STARTUP) | (caller == THREAD),
+        Refusal::CallerError,
     )
 }
 
-pub fn delete(th: Thread, caller: u32) -> u32
-    ensures { result ≡ delete_refusal th caller }
+pub fn delete(th: Thread, caller: u32) -> Result<(), Refusal>
+    ensures { reason_of result ≡ delete_refusal th caller }
 {
-    first(
-        unless(th.created, THREAD_ERROR),
-        first(
-            unless(caller == THREAD, CALLER_ERROR),
-            unless(
-                (th.state == COMPLETED) | (th.state == TERMINATED),
-                DELETE_ERROR,
-            ),
-        ),
+    check(th.created, Refusal::ThreadError)?;
+    check(caller == THREAD, Refusal::CallerError)?;
+    check(
+        (th.state == COMPLETED) | (th.state == TERMINATED),
+        Refusal::DeleteError,
     )
 }
 
-pub fn resume(th: Thread) -> u32
-    ensures { result ≡ resume_refusal th }
+pub fn resume(th: Thread) -> Result<(), Refusal>
+    ensures { reason_of result ≡ resume_refusal th }
 {
-    first(
-        unless(th.created, THREAD_ERROR),
-        unless((th.state == SUSPENDED) | th.suspending, RESUME_ERROR),
+    check(th.created, Refusal::ThreadError)?;
+    check(
+        (th.state == SUSPENDED) | th.suspending,
+        Refusal::ResumeError,
     )
 }
 
-pub fn suspend(th: Thread) -> u32
-    ensures { result ≡ suspend_refusal th }
+pub fn suspend(th: Thread) -> Result<(), Refusal>
+    ensures { reason_of result ≡ suspend_refusal th }
 {
-    first(
-        unless(th.created, THREAD_ERROR),
-        unless(
-            !((th.state == COMPLETED) | (th.state == TERMINATED)),
-            SUSPEND_ERROR,
-        ),
+    check(th.created, Refusal::ThreadError)?;
+    check(
+        !((th.state == COMPLETED) | (th.state == TERMINATED)),
+        Refusal::SuspendError,
     )
 }
 
-pub fn terminate(th: Thread, caller: u32) -> u32
-    ensures { result ≡ terminate_refusal th caller }
+pub fn terminate(th: Thread, caller: u32) -> Result<(), Refusal>
+    ensures { reason_of result ≡ terminate_refusal th caller }
 {
-    first(
-        unless(th.created, THREAD_ERROR),
-        unless(caller == THREAD, CALLER_ERROR),
-    )
+    check(th.created, Refusal::ThreadError)?;
+    check(caller == THREAD, Refusal::CallerError)
 }
 
-pub fn reset(th: Thread, caller: u32) -> u32
-    ensures { result ≡ reset_refusal th caller }
+pub fn reset(th: Thread, caller: u32) -> Result<(), Refusal>
+    ensures { reason_of result ≡ reset_refusal th caller }
 {
-    first(
-        unless(th.created, THREAD_ERROR),
-        first(
-            unless(caller == THREAD, CALLER_ERROR),
-            unless((th.state == COMPLETED) | (th.state == TERMINATED), NOT_DONE),
-        ),
+    check(th.created, Refusal::ThreadError)?;
+    check(caller == THREAD, Refusal::CallerError)?;
+    check(
+        (th.state == COMPLETED) | (th.state == TERMINATED),
+        Refusal::NotDone,
     )
 }
 
 // Finish, relinquish and sleep.
-pub fn thread_only(caller: u32) -> u32
-    ensures { result ≡ thread_only_refusal caller }
+pub fn thread_only(caller: u32) -> Result<(), Refusal>
+    ensures { reason_of result ≡ thread_only_refusal caller }
 {
-    unless(caller == THREAD, CALLER_ERROR)
+    check(caller == THREAD, Refusal::CallerError)
 }
 
-pub fn abort(th: Thread) -> u32
-    ensures { result ≡ abort_refusal th }
+pub fn abort(th: Thread) -> Result<(), Refusal>
+    ensures { reason_of result ≡ abort_refusal th }
 {
-    first(
-        unless(th.created, THREAD_ERROR),
-        unless(th.is_paused(), WAIT_ABORT_ERROR),
-    )
+    check(th.created, Refusal::ThreadError)?;
+    check(th.is_paused(), Refusal::WaitAbortError)
 }
 
-pub fn priority_change(th: Thread, priority: u32, caller: u32) -> u32
-    ensures { result ≡ priority_refusal th priority caller }
+pub fn priority_change(th: Thread, priority: u32, caller: u32) -> Result<(), Refusal>
+    ensures { reason_of result ≡ priority_refusal th priority caller }
 {
-    first(
-        unless(th.created, THREAD_ERROR),
-        first(
-            unless(priority < PRIORITIES, PRIORITY_ERROR),
-            unless(caller == THREAD, CALLER_ERROR),
-        ),
-    )
+    check(th.created, Refusal::ThreadError)?;
+    check(priority < PRIORITIES, Refusal::PriorityError)?;
+    check(caller == THREAD, Refusal::CallerError)
 }
 
-pub fn preemption_change(th: Thread, threshold: u32, caller: u32) -> u32
-    ensures { result ≡ preemption_refusal th threshold caller }
+pub fn preemption_change(th: Thread, threshold: u32, caller: u32) -> Result<(), Refusal>
+    ensures { reason_of result ≡ preemption_refusal th threshold caller }
 {
-    first(
-        unless(th.created, THREAD_ERROR),
-        first(
-            unless(threshold <= th.priority as u32, THRESH_ERROR),
-            unless(caller == THREAD, CALLER_ERROR),
-        ),
-    )
+    check(th.created, Refusal::ThreadError)?;
+    check(threshold <= th.priority as u32, Refusal::ThreshError)?;
+    check(caller == THREAD, Refusal::CallerError)
 }
 
-pub fn tick(caller: u32) -> u32
-    ensures { result ≡ tick_refusal caller }
+pub fn tick(caller: u32) -> Result<(), Refusal>
+    ensures { reason_of result ≡ tick_refusal caller }
 {
-    unless(caller == INTERRUPT, CALLER_ERROR)
+    check(caller == INTERRUPT, Refusal::CallerError)
 }
 
 // The reads of state and words.
-pub fn read(th: Thread) -> u32
-    ensures { result ≡ read_refusal th }
+pub fn read(th: Thread) -> Result<(), Refusal>
+    ensures { reason_of result ≡ read_refusal th }
 {
-    unless(th.created, THREAD_ERROR)
+    check(th.created, Refusal::ThreadError)
 }
 
-pub fn semaphore_create(n: SemaphoreId, x: Semaphore, caller: u32) -> u32
-    ensures { result ≡ semaphore_create_refusal n.0 x caller }
+pub fn semaphore_create(n: SemaphoreId, x: Semaphore, caller: u32) -> Result<(), Refusal>
+    ensures { reason_of result ≡ semaphore_create_refusal n.0 x caller }
 {
-    first(
-        unless((n.0 < NO_SEMAPHORE) & !x.created, SEMAPHORE_ERROR),
-        unless((caller == STARTUP) | (caller == THREAD), CALLER_ERROR),
+    check((n.0 < NO_SEMAPHORE) & !x.created, Refusal::SemaphoreError)?;
+    check(
+        (caller == STARTUP) | (caller == THREAD),
+        Refusal::CallerError,
     )
 }
 
-pub fn semaphore_delete(x: Semaphore, caller: u32) -> u32
-    ensures { result ≡ semaphore_delete_refusal x caller }
+pub fn semaphore_delete(x: Semaphore, caller: u32) -> Result<(), Refusal>
+    ensures { reason_of result ≡ semaphore_delete_refusal x caller }
 {
-    first(
-        unless(x.created, SEMAPHORE_ERROR),
-        unless(caller == THREAD, CALLER_ERROR),
-    )
+    check(x.created, Refusal::SemaphoreError)?;
+    check(caller == THREAD, Refusal::CallerError)
 }
 
-pub fn semaphore_get(x: Semaphore, wait: u32, caller: u32) -> u32
-    ensures { result ≡ semaphore_get_refusal x wait caller }
+pub fn semaphore_get(x: Semaphore, wait: u32, caller: u32) -> Result<(), Refusal>
+    ensures { reason_of result ≡ semaphore_get_refusal x wait caller }
 {
-    first(
-        unless(x.created, SEMAPHORE_ERROR),
-        first(
-            unless((wait == 0) | (caller == THREAD), WAIT_ERROR),
-            unless((0 < wait) | (0 < x.count), NO_INSTANCE),
-        ),
-    )
+    check(x.created, Refusal::SemaphoreError)?;
+    check((wait == 0) | (caller == THREAD), Refusal::WaitError)?;
+    check((0 < wait) | (0 < x.count), Refusal::NoInstance)
 }
 
-pub fn put(x: Semaphore) -> u32
-    ensures { result ≡ put_refusal x }
+pub fn put(x: Semaphore) -> Result<(), Refusal>
+    ensures { reason_of result ≡ put_refusal x }
 {
-    first(
-        unless(x.created, SEMAPHORE_ERROR),
-        unless(x.count < LARGEST_COUNT, CEILING_EXCEEDED),
-    )
+    check(x.created, Refusal::SemaphoreError)?;
+    check(x.count < LARGEST_COUNT, Refusal::CeilingExceeded)
 }
 
-pub fn ceiling_put(x: Semaphore, ceiling: u32) -> u32
-    ensures { result ≡ ceiling_refusal x ceiling }
+pub fn ceiling_put(x: Semaphore, ceiling: u32) -> Result<(), Refusal>
+    ensures { reason_of result ≡ ceiling_refusal x ceiling }
 {
-    first(
-        unless(x.created, SEMAPHORE_ERROR),
-        first(
-            unless(0 < ceiling, INVALID_CEILING),
-            unless(x.count < ceiling, CEILING_EXCEEDED),
-        ),
-    )
+    check(x.created, Refusal::SemaphoreError)?;
+    check(0 < ceiling, Refusal::InvalidCeiling)?;
+    check(x.count < ceiling, Refusal::CeilingExceeded)
 }
 
 // Prioritise.
-pub fn semaphore(x: Semaphore) -> u32
-    ensures { result ≡ semaphore_refusal x }
+pub fn semaphore(x: Semaphore) -> Result<(), Refusal>
+    ensures { reason_of result ≡ semaphore_refusal x }
 {
-    unless(x.created, SEMAPHORE_ERROR)
+    check(x.created, Refusal::SemaphoreError)
 }
 
-pub fn queue_create(n: QueueId, q: Queue, words: u32, storage: u32, caller: u32) -> u32
-    ensures { result ≡ queue_create_refusal n.0 q words storage caller }
+pub fn queue_create(
+    n: QueueId,
+    q: Queue,
+    words: u32,
+    storage: u32,
+    caller: u32,
+) -> Result<(), Refusal>
+    ensures { reason_of result ≡ queue_create_refusal n.0 q words storage caller }
 {
-    first(
-        unless((n.0 < NO_QUEUE) & !q.created, QUEUE_ERROR),
-        first(
-            unless(sizes_fit(words, storage), SIZE_ERROR),
-            unless((caller == STARTUP) | (caller == THREAD), CALLER_ERROR),
-        ),
+    check((n.0 < NO_QUEUE) & !q.created, Refusal::QueueError)?;
+    check(sizes_fit(words, storage), Refusal::SizeError)?;
+    check(
+        (caller == STARTUP) | (caller == THREAD),
+        Refusal::CallerError,
     )
 }
 
-pub fn queue_delete(q: Queue, caller: u32) -> u32
-    ensures { result ≡ queue_delete_refusal q caller }
+pub fn queue_delete(q: Queue, caller: u32) -> Result<(), Refusal>
+    ensures { reason_of result ≡ queue_delete_refusal q caller }
 {
-    first(
-        unless(q.created, QUEUE_ERROR),
-        unless(caller == THREAD, CALLER_ERROR),
-    )
+    check(q.created, Refusal::QueueError)?;
+    check(caller == THREAD, Refusal::CallerError)
 }
 
 // Send and front send; `area` is the number of words that are lent.
-pub fn send(q: Queue, index: u32, area: usize, wait: u32, caller: u32) -> u32
-    ensures { result ≡ send_refusal q index area wait caller }
+pub fn send(q: Queue, index: u32, area: usize, wait: u32, caller: u32) -> Result<(), Refusal>
+    ensures { reason_of result ≡ send_refusal q index area wait caller }
 {
-    first(
-        unless(q.created, QUEUE_ERROR),
-        first(
-            unless((index as usize) + (q.words as usize) <= area, PTR_ERROR),
-            first(
-                unless((wait == 0) | (caller == THREAD), WAIT_ERROR),
-                unless((0 < wait) | q.has_room(), QUEUE_FULL),
-            ),
-        ),
-    )
+    check(q.created, Refusal::QueueError)?;
+    check(
+        (index as usize) + (q.words as usize) <= area,
+        Refusal::PtrError,
+    )?;
+    check((wait == 0) | (caller == THREAD), Refusal::WaitError)?;
+    check((0 < wait) | q.has_room(), Refusal::QueueFull)
 }
 
-pub fn receive(q: Queue, wait: u32, caller: u32) -> u32
-    ensures { result ≡ receive_refusal q wait caller }
+pub fn receive(q: Queue, wait: u32, caller: u32) -> Result<(), Refusal>
+    ensures { reason_of result ≡ receive_refusal q wait caller }
 {
-    first(
-        unless(q.created, QUEUE_ERROR),
-        first(
-            unless((wait == 0) | (caller == THREAD), WAIT_ERROR),
-            unless((0 < wait) | !q.is_empty(), QUEUE_EMPTY),
-        ),
-    )
+    check(q.created, Refusal::QueueError)?;
+    check((wait == 0) | (caller == THREAD), Refusal::WaitError)?;
+    check((0 < wait) | !q.is_empty(), Refusal::QueueEmpty)
 }
 
 // Flush and prioritise.
-pub fn queue(q: Queue) -> u32
-    ensures { result ≡ queue_refusal q }
+pub fn queue(q: Queue) -> Result<(), Refusal>
+    ensures { reason_of result ≡ queue_refusal q }
 {
-    unless(q.created, QUEUE_ERROR)
+    check(q.created, Refusal::QueueError)
 }
 
-pub fn group_create(n: GroupId, g: Group, caller: u32) -> u32
-    ensures { result ≡ group_create_refusal n.0 g caller }
+pub fn group_create(n: GroupId, g: Group, caller: u32) -> Result<(), Refusal>
+    ensures { reason_of result ≡ group_create_refusal n.0 g caller }
 {
-    first(
-        unless((n.0 < NO_GROUP) & !g.created, GROUP_ERROR),
-        unless((caller == STARTUP) | (caller == THREAD), CALLER_ERROR),
+    check((n.0 < NO_GROUP) & !g.created, Refusal::GroupError)?;
+    check(
+        (caller == STARTUP) | (caller == THREAD),
+        Refusal::CallerError,
     )
 }
 
-pub fn group_delete(g: Group, caller: u32) -> u32
-    ensures { result ≡ group_delete_refusal g caller }
+pub fn group_delete(g: Group, caller: u32) -> Result<(), Refusal>
+    ensures { reason_of result ≡ group_delete_refusal g caller }
 {
-    first(
-        unless(g.created, GROUP_ERROR),
-        unless(caller == THREAD, CALLER_ERROR),
+    check(g.created, Refusal::GroupError)?;
+    check(caller == THREAD, Refusal::CallerError)
+}
+
+pub fn flags_set(g: Group, option: u32) -> Result<(), Refusal>
+    ensures { reason_of result ≡ set_refusal g option }
+{
+    check(g.created, Refusal::GroupError)?;
+    check((option == 0) | (option == 2), Refusal::OptionError)
+}
+
+pub fn flags_get(g: Group, request: u32, option: u32, wait: u32, caller: u32) -> Result<(), Refusal>
+    ensures { reason_of result ≡ get_refusal g request option wait caller }
+{
+    check(g.created, Refusal::GroupError)?;
+    check(option <= 3, Refusal::OptionError)?;
+    check((wait == 0) | (caller == THREAD), Refusal::WaitError)?;
+    check(
+        (0 < wait) | is_met(g.flags, request, option_of(option)),
+        Refusal::NoEvents,
     )
 }
 
-pub fn flags_set(g: Group, option: u32) -> u32
-    ensures { result ≡ set_refusal g option }
+pub fn pool_create(n: PoolId, p: Pool, block: u32, total: u32, caller: u32) -> Result<(), Refusal>
+    ensures { reason_of result ≡ pool_create_refusal n.0 p block total caller }
 {
-    first(
-        unless(g.created, GROUP_ERROR),
-        unless((option == 0) | (option == 2), OPTION_ERROR),
+    check((n.0 < NO_POOL) & !p.created, Refusal::PoolError)?;
+    check(blocks::pool::sizes_fit(block, total), Refusal::SizeError)?;
+    check(
+        (caller == STARTUP) | (caller == THREAD),
+        Refusal::CallerError,
     )
 }
 
-pub fn flags_get(g: Group, request: u32, option: u32, wait: u32, caller: u32) -> u32
-    ensures { result ≡ get_refusal g request option wait caller }
+pub fn pool_delete(p: Pool, caller: u32) -> Result<(), Refusal>
+    ensures { reason_of result ≡ pool_delete_refusal p caller }
 {
-    first(
-        unless(g.created, GROUP_ERROR),
-        first(
-            unless(option <= 3, OPTION_ERROR),
-            first(
-                unless((wait == 0) | (caller == THREAD), WAIT_ERROR),
-                unless(
-                    (0 < wait) | is_met(g.flags, request, option_of(option)),
-                    NO_EVENTS,
-                ),
-            ),
-        ),
-    )
+    check(p.created, Refusal::PoolError)?;
+    check(caller == THREAD, Refusal::CallerError)
 }
 
-pub fn pool_create(n: PoolId, p: Pool, block: u32, total: u32, caller: u32) -> u32
-    ensures { result ≡ pool_create_refusal n.0 p block total caller }
+pub fn allocate(p: Pool, wait: u32, caller: u32) -> Result<(), Refusal>
+    ensures { reason_of result ≡ allocate_refusal p wait caller }
 {
-    first(
-        unless((n.0 < NO_POOL) & !p.created, POOL_ERROR),
-        first(
-            unless(blocks::pool::sizes_fit(block, total), SIZE_ERROR),
-            unless((caller == STARTUP) | (caller == THREAD), CALLER_ERROR),
-        ),
-    )
+    check(p.created, Refusal::PoolError)?;
+    check((wait == 0) | (caller == THREAD), Refusal::WaitError)?;
+    check((0 < wait) | p.has_free(), Refusal::NoMemory)
 }
 
-pub fn pool_delete(p: Pool, caller: u32) -> u32
-    ensures { result ≡ pool_delete_refusal p caller }
+pub fn release(p: Pool, block: u32) -> Result<(), Refusal>
+    ensures { reason_of result ≡ release_refusal p block }
 {
-    first(
-        unless(p.created, POOL_ERROR),
-        unless(caller == THREAD, CALLER_ERROR),
-    )
-}
-
-pub fn allocate(p: Pool, wait: u32, caller: u32) -> u32
-    ensures { result ≡ allocate_refusal p wait caller }
-{
-    first(
-        unless(p.created, POOL_ERROR),
-        first(
-            unless((wait == 0) | (caller == THREAD), WAIT_ERROR),
-            unless((0 < wait) | p.has_free(), NO_MEMORY),
-        ),
-    )
-}
-
-pub fn release(p: Pool, block: u32) -> u32
-    ensures { result ≡ release_refusal p block }
-{
-    first(
-        unless(p.created, POOL_ERROR),
-        unless(p.is_used(block), PTR_ERROR),
-    )
+    check(p.created, Refusal::PoolError)?;
+    check(p.is_used(block), Refusal::PtrError)
 }
 
 // Prioritise.
-pub fn pool(p: Pool) -> u32
-    ensures { result ≡ pool_refusal p }
+pub fn pool(p: Pool) -> Result<(), Refusal>
+    ensures { reason_of result ≡ pool_refusal p }
 {
-    unless(p.created, POOL_ERROR)
+    check(p.created, Refusal::PoolError)
 }

@@ -1,4 +1,5 @@
 // The statuses, by ThreadX's names where it has one. Those from 0x100 on are this library's own.
+// They are numbers and no enum, since C reads them and the clauses of answers and of what a thread holds speak of every number.
 pub const SUCCESS: u32 = 0x00;
 
 pub const DELETED: u32 = 0x01;

@@ -1,9 +1,14 @@
 // Flags in a block: bytes that are 0 or 1.
-ghost use Rattle.std.specs.Prelude.{◌≡◌, ◌&&◌, ◌<◌, length, eqb};
+ghost use Rattle.std.specs.Prelude.{◌≡◌, ◌&&◌, ◌+◌, ◌*◌, ◌<◌, length, eqb};
+ghost use Rattle.lines.specs.Logic.{all_below};
 ghost use Rattle.codec.specs.Layout.{state_bytes};
-ghost use Rattle.codec.specs.State.{flagb, thread_flagsb, semaphore_flagsb, queue_flagsb, pool_flagsb, flags_fitb};
+ghost use Rattle.codec.specs.State.{flagb, flags_fitb};
 
 use super::layout;
+use super::layout::{
+    FLAGGED_BYTES, GROUPS, HELD_BYTES, POOL_BYTES, POOLS, QUEUE_BYTES, QUEUES, SEMAPHORES,
+    THREAD_BYTES, THREADS,
+};
 
 // Where the first flag of each kind lies.
 const THREAD_CREATED: usize = layout::THREADS_AT + layout::THREAD_CREATED;
@@ -24,72 +29,15 @@ const GROUP_CREATED: usize = layout::GROUPS_AT + layout::FLAGGED_CREATED;
 
 const POOL_CREATED: usize = layout::POOLS_AT + layout::POOL_CREATED;
 
-fn is_flag(block: &[u8], at: usize) -> bool
-    requires { at < length block.now }
-    ensures { result ≡ flagb block.now at }
-{
-    block[at] <= 1
-}
-
-// The flags of threads and of what they hold.
-fn threads_fit(block: &[u8]) -> bool
-    requires { length block.now ≡ state_bytes }
-    ensures { result ≡ thread_flagsb block.now }
+// Whether n records of `size` bytes each have a flag at a byte, which for the first of them is byte `first`.
+#[tactic(auto, using(crate::proofs::Laws::Flags::tests))]
+fn are_flags(block: &[u8], first: usize, size: usize, n: usize) -> bool
+    requires { first + size * n < length block.now }
+    ensures { result ≡ all_below n (λ i. flagb block.now (first + size * i)) }
 {
     let mut fit = true;
-    let mut i: usize = 0;
-    while i < layout::THREADS {
-        fit = fit
-            & (is_flag(block, THREAD_CREATED + layout::THREAD_BYTES * i)
-                & is_flag(block, THREAD_MARKED + layout::THREAD_BYTES * i)
-                & is_flag(block, THREAD_SUSPENDING + layout::THREAD_BYTES * i)
-                & is_flag(block, HELD_SENDING + layout::HELD_BYTES * i)
-                & is_flag(block, HELD_FRONT + layout::HELD_BYTES * i));
-        i += 1;
-    }
-    fit
-}
-
-// The flags of semaphores.
-fn semaphores_fit(block: &[u8]) -> bool
-    requires { length block.now ≡ state_bytes }
-    ensures { result ≡ semaphore_flagsb block.now }
-{
-    let mut fit = true;
-    let mut i: usize = 0;
-    while i < layout::SEMAPHORES {
-        fit = fit & is_flag(block, SEMAPHORE_CREATED + layout::FLAGGED_BYTES * i);
-        i += 1;
-    }
-    fit
-}
-
-// The flags of queues and groups.
-fn queues_fit(block: &[u8]) -> bool
-    requires { length block.now ≡ state_bytes }
-    ensures { result ≡ queue_flagsb block.now }
-{
-    let mut fit = true;
-    let mut i: usize = 0;
-    while i < layout::QUEUES {
-        fit = fit
-            & (is_flag(block, QUEUE_CREATED + layout::QUEUE_BYTES * i)
-                & is_flag(block, GROUP_CREATED + layout::FLAGGED_BYTES * i));
-        i += 1;
-    }
-    fit
-}
-
-// The flags of pools.
-fn pools_fit(block: &[u8]) -> bool
-    requires { length block.now ≡ state_bytes }
-    ensures { result ≡ pool_flagsb block.now }
-{
-    let mut fit = true;
-    let mut i: usize = 0;
-    while i < layout::POOLS {
-        fit = fit & is_flag(block, POOL_CREATED + layout::POOL_BYTES * i);
-        i += 1;
+    for i in 0..n {
+        fit &= block[first + size * i] <= 1;
     }
     fit
 }
@@ -101,5 +49,13 @@ pub fn are_fit(block: &[u8]) -> bool
     if block.len() != layout::STATE_BYTES {
         return false;
     }
-    threads_fit(block) & semaphores_fit(block) & queues_fit(block) & pools_fit(block)
+    are_flags(block, THREAD_CREATED, THREAD_BYTES, THREADS)
+        & are_flags(block, THREAD_MARKED, THREAD_BYTES, THREADS)
+        & are_flags(block, THREAD_SUSPENDING, THREAD_BYTES, THREADS)
+        & are_flags(block, HELD_SENDING, HELD_BYTES, THREADS)
+        & are_flags(block, HELD_FRONT, HELD_BYTES, THREADS)
+        & are_flags(block, SEMAPHORE_CREATED, FLAGGED_BYTES, SEMAPHORES)
+        & are_flags(block, QUEUE_CREATED, QUEUE_BYTES, QUEUES)
+        & are_flags(block, GROUP_CREATED, FLAGGED_BYTES, GROUPS)
+        & are_flags(block, POOL_CREATED, POOL_BYTES, POOLS)
 }

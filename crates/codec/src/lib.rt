@@ -8,4 +8,5 @@
 pub mod flags;
 pub mod layout;
 pub mod reading;
+mod records;
 pub mod writing;

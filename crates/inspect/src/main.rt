@@ -3,136 +3,91 @@
 
 #![tactic(auto)]
 
-ghost use Rattle.std.specs.Prelude.{◌≡◌};
-ghost use Rattle.kernel.specs.General.{call};
 ghost use Rattle.tape.specs.Tapes.{records_of};
-ghost use Rattle.output.specs.Texts.{Put};
-ghost use Rattle.inspect.specs.Inspect.{arguments_text, call_text, answer_text, result_text, calls_text, inspect_text};
+ghost use Rattle.output.specs.Texts.{Puts};
+ghost use Rattle.inspect.specs.Inspect.{arguments_text, call_text, answer_text, result_text, record_text, calls_text, inspect_text};
 
 use calls::call::Request;
 use kernel::{Answer, Kernel};
-use numbers::ThreadId;
-use output::{flush, put_byte};
+use output::Writer;
 use tables::put_tables;
-use text::input::{MOST_BYTES, open};
-use text::{put_field, put_refused, put_thread, put_words};
+use text::input::print_tape;
+use text::records::{Listing, put_records};
+use text::{put_field, put_numbers, put_refused, put_thread};
 
 mod tables;
 
-// The bytes of text that are gathered for a write.
-const BUFFER_BYTES: usize = 65536;
+// The listing that this program prints.
+struct Inspect;
 
-// One call of the tape. The message words are those that a send takes its message from.
-fn carried_out(k: Kernel, r: Request, words: &[u32]) -> Answer
-    ensures { result ≡ call k r words.now }
-{
-    k.call(r, words)
+impl<P: Print, const N: usize> Listing<P, N> for Inspect {
+    ghost listed_text = { record_text };
+
+    fn put_record(w: &mut Writer<P, N>, i: u32, r: &Request, a: &Answer) {
+        put_call(w, i, r);
+        put_result(w, a);
+        put_tables(w, &a.kernel);
+    }
 }
 
-fn put_arguments(out: &impl Print, buf: &mut [u8], at: usize, r: Request) -> usize
-    ensures { Put buf.old at (arguments_text r) buf.new result }
+fn put_arguments<P: Print, const N: usize>(w: &mut Writer<P, N>, r: &Request)
+    ensures { Puts w.old (arguments_text r.now) w.new }
 {
-    let at = put_field(out, buf, at, b" ", r.a);
-    let at = put_field(out, buf, at, b" ", r.b);
-    let at = put_field(out, buf, at, b" ", r.c);
-    put_field(out, buf, at, b" ", r.d)
+    put_field(w, b" ", r.a);
+    put_field(w, b" ", r.b);
+    put_field(w, b" ", r.c);
+    put_field(w, b" ", r.d);
 }
 
-fn put_call(out: &impl Print, buf: &mut [u8], at: usize, i: u32, r: Request) -> usize
-    ensures { Put buf.old at (call_text i r) buf.new result }
+fn put_call<P: Print, const N: usize>(w: &mut Writer<P, N>, i: u32, r: &Request)
+    ensures { Puts w.old (call_text i r.now) w.new }
 {
-    let at = put_field(out, buf, at, b"call ", i);
-    let at = put_field(out, buf, at, b" ", r.number);
-    let at = put_field(out, buf, at, b" ", r.caller);
-    let at = put_arguments(out, buf, at, r);
-    put_byte(out, buf, at, b'\n')
+    put_field(w, b"call ", i);
+    put_field(w, b" ", r.number);
+    put_field(w, b" ", r.caller);
+    put_arguments(w, r);
+    w.put_byte(b'\n');
 }
 
-fn put_answer(
-    out: &impl Print,
-    buf: &mut [u8],
-    at: usize,
-    status: u32,
-    next: ThreadId,
-    ended: u32,
-) -> usize
-    ensures { Put buf.old at (answer_text status next.0 ended) buf.new result }
+fn put_answer<P: Print, const N: usize>(w: &mut Writer<P, N>, a: &Answer)
+    ensures { Puts w.old (answer_text a.now.status a.now.next.0 a.now.ended) w.new }
 {
-    let at = put_field(out, buf, at, b"result ", status);
-    let at = put_byte(out, buf, at, b' ');
-    let at = put_thread(out, buf, at, next);
-    put_field(out, buf, at, b" ", ended)
+    put_field(w, b"result ", a.status);
+    w.put_byte(b' ');
+    put_thread(w, a.next);
+    put_field(w, b" ", a.ended);
 }
 
-fn put_result(
-    out: &impl Print,
-    buf: &mut [u8],
-    at: usize,
-    status: u32,
-    next: ThreadId,
-    ended: u32,
-    words: &[u32],
-) -> usize
-    ensures { Put buf.old at (result_text status next.0 ended words.now) buf.new result }
+fn put_result<P: Print, const N: usize>(w: &mut Writer<P, N>, a: &Answer)
+    ensures { Puts w.old (result_text a.now.status a.now.next.0 a.now.ended a.now.words) w.new }
 {
-    let at = put_answer(out, buf, at, status, next, ended);
-    let at = put_byte(out, buf, at, b' ');
-    let at = put_words(out, buf, at, words, b' ');
-    put_byte(out, buf, at, b'\n')
+    put_answer(w, a);
+    w.put_byte(b' ');
+    put_numbers(w, &a.words, b' ');
+    w.put_byte(b'\n');
 }
 
 // Every call of a tape that is not refused, on the message words that are lent.
-fn put_calls(out: &impl Print, buf: &mut [u8], at: usize, bytes: &[u8], words: &[u32]) -> usize
-    ensures { Put buf.old at (calls_text words.now (records_of bytes.now)) buf.new result }
+fn put_calls<P: Print, const N: usize>(w: &mut Writer<P, N>, bytes: &[u8], messages: &[u32])
+    ensures { Puts w.old (calls_text messages.now (records_of bytes.now)) w.new }
 {
-    let n = tape::count(bytes);
-    let mut k = Kernel::start();
-    let mut to = put_tables(out, buf, at, k);
-    let mut i: u32 = 0;
-    while i < n {
-        let r = tape::record_at(bytes, i as usize);
-        let answer = carried_out(k, r, words);
-        k = answer.kernel;
-        let given = answer.words;
-        to = put_call(out, buf, to, i, r);
-        to = put_result(
-            out,
-            buf,
-            to,
-            answer.status,
-            answer.next,
-            answer.ended,
-            &given,
-        );
-        to = put_tables(out, buf, to, k);
-        i += 1;
-    }
-    to
+    put_tables(w, &Kernel::start());
+    put_records::<Inspect, P, N>(w, bytes, messages);
 }
 
-// What is printed of a tape.
-fn put_run(out: &impl Print, buf: &mut [u8], bytes: &[u8]) -> usize
-    ensures { Put buf.old 0 (inspect_text bytes.now) buf.new result }
+// What is printed of a tape. It stands in `replay` and `inspect`, since one function of both would need a trait more for these lines.
+fn put_run<P: Print, const N: usize>(w: &mut Writer<P, N>, bytes: &[u8])
+    ensures { Puts w.old (inspect_text bytes.now) w.new }
 {
     if tape::is_refused(bytes) {
-        return put_refused(out, buf, 0);
+        return put_refused(w);
     }
-    let words = tape::messages(bytes);
+    let messages = tape::messages(bytes);
     let m = tape::message_count(bytes) as usize;
-    put_calls(out, buf, 0, bytes, &words[..m])
-}
-
-fn inspect(out: &impl Print, bytes: &[u8]) {
-    let mut buf = [0u8; BUFFER_BYTES];
-    let at = put_run(out, &mut buf, bytes);
-    flush(out, &mut buf, at);
+    put_calls(w, bytes, &messages[..m]);
 }
 
 fn main(rt: HostRuntime) {
-    let Some(mut source) = open(&rt) else {
-        return;
-    };
-    let mut bytes = [0u8; MOST_BYTES];
-    let n = source.read_full(&mut bytes);
-    inspect(&rt, &bytes[..n]);
+    // A closure, since `put_run` itself would be taken at one lifetime only.
+    print_tape(&rt, |w, bytes| put_run(w, bytes));
 }

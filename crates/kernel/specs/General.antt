@@ -1,5 +1,5 @@
 -- The general call: the effect of each call, and the answer to a request (rules 2.5 to 2.7).
-use Rattle.std.specs.Prelude.{if◌then◌else◌, List, true, false, ℕ}
+use Rattle.std.specs.Prelude.{if◌then◌else◌, List, true, false, ℕ, Option, Some, None}
 use Rattle.numbers.specs.Numbers.{nobody}
 use Rattle.scheduler.specs.Threads.{completed, suspended}
 use Rattle.objects.specs.Queues.{empty_queue}
@@ -52,8 +52,6 @@ use Rattle.calls.specs.declared.call.Call.TheVariants.{
   ThreadStateRead,
   ThreadWordsRead,
 }
-use Rattle.calls.specs.declared.call.Decoded.{Decoded}
-use Rattle.calls.specs.declared.call.Decoded.TheVariants.{Known, Unknown}
 use Rattle.kernel.specs.declared.Kernel.{Kernel}
 use Rattle.kernel.specs.declared.Answer.{Answer}
 use Rattle.kernel.specs.Sound.{soundb}
@@ -130,9 +128,9 @@ effect_of k (ThreadWordsRead t) messages = words_effect k t.0
 -- ---- the answer
 -- rules 2.6, 2.7: a request for a known call is refused for the first reason of the table that holds, else the call's effect is carried
 -- out and the next thread chosen once; any other request is refused as unknown
-unfoldable pub step_of : Kernel → Request → Decoded → List ℕ → Outcome
-step_of k q (Known call) messages = guarded k (reason_of k q messages) (effect_of k call messages)
-step_of k q Unknown messages = refused k Statuses.unknown_call
+unfoldable pub step_of : Kernel → Request → Option Call → List ℕ → Outcome
+step_of k q (Some call) messages = guarded k (reason_of k q messages) (effect_of k call messages)
+step_of k q None messages = refused k Statuses.unknown_call
 
 -- rule 2.6: one call on sound tables: a request and the lent message words
 unfoldable pub step : Kernel → Request → List ℕ → Outcome

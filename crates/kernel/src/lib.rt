@@ -4,20 +4,27 @@
 
 #![tactic(auto)]
 
-ghost use Rattle.std.specs.Prelude.{◌≡◌, get_or};
-ghost use Rattle.objects.specs.Semaphores.{no_semaphore};
-ghost use Rattle.calls.specs.Held.{no_held, no_words, two_words};
-ghost use Rattle.kernel.specs.Tables.{started, with_held};
+ghost use Rattle.std.specs.Prelude.{◌≡◌, ℕ, get_or, set};
+ghost use Rattle.calls.specs.Held.{two_words};
+ghost use Rattle.kernel.specs.Tables.{started, runner_of};
 ghost use Rattle.kernel.specs.Answers.{answer_of, refused};
+ghost use Rattle.kernel.specs.Kinds.{Kind};
+ghost use Rattle.kernel.specs.Edits.{edited};
+ghost use Rattle.kernel.specs.Edits.Cause.{served};
+ghost use Rattle.kernel.specs.Edits.Move.{ends, starts};
+ghost use Rattle.kernel.specs.Edits.Edit.{moves};
 ghost use Rattle.kernel.specs.Loops.{answered};
 
 use blocks::pool::Pool;
 use calls::held::Held;
-use numbers::{GROUPS, MESSAGE_WORDS, POOLS, QUEUES, SEMAPHORES, SemaphoreId, THREADS, ThreadId};
+use calls::status::SUCCESS;
+use numbers::{GROUPS, MESSAGE_WORDS, POOLS, QUEUES, SEMAPHORES, THREADS, ThreadId};
 use objects::group::Group;
 use objects::queue::Queue;
 use objects::semaphore::Semaphore;
 use scheduler::Scheduler;
+use scheduler::thread::Place;
+use waits::with_runner_waiting;
 
 pub mod clock;
 pub mod general;
@@ -31,6 +38,11 @@ pub mod threads;
 pub mod view;
 pub mod waits;
 
+// The words of a message or an answer that has none.
+pub(crate) const NO_WORDS: [u32; MESSAGE_WORDS] = [0; MESSAGE_WORDS];
+
+// `held` stands beside the scheduler's threads, by the same numbers, so that a move or a choice copies the scheduler alone. Create, delete and
+// prioritise stand once for each kind of object: one function for all kinds that takes the tables by value copies them again.
 #[derive(Clone, Copy)]
 pub struct Kernel {
     pub scheduler: Scheduler,
@@ -54,12 +66,13 @@ pub struct Answer {
 
 impl Kernel {
     // Nothing created.
+    #[tactic(auto, unfolding(crate::specs::Tables::started))]
     pub fn start() -> Kernel
         ensures { result ≡ started }
     {
         Kernel {
             scheduler: Scheduler::start(),
-            held: [Held::of(0, [0; MESSAGE_WORDS]); THREADS],
+            held: [Held::of(0, NO_WORDS); THREADS],
             semaphores: [Semaphore::none(); SEMAPHORES],
             queues: [Queue::none(); QUEUES],
             groups: [Group::none(); GROUPS],
@@ -69,6 +82,7 @@ impl Kernel {
     }
 
     // The answer of a refused call: the tables as they are.
+    #[tactic(auto, unfolding(crate::specs::Answers::answer_of, crate::specs::Answers::refused))]
     pub(crate) fn refused(self, status: u32) -> Answer
         ensures { result ≡ answer_of (refused self status) }
     {
@@ -76,7 +90,7 @@ impl Kernel {
         let next = s.running;
         Answer {
             status,
-            words: [0; MESSAGE_WORDS],
+            words: NO_WORDS,
             next,
             ended: 0,
             kernel: self,
@@ -84,6 +98,7 @@ impl Kernel {
     }
 
     // The answer of a call that was carried out, after which the next thread is chosen on `s`.
+    #[tactic(auto, unfolding(crate::specs::Loops::answered, crate::specs::Tables::with_scheduler))]
     pub(crate) fn carried(
         mut self,
         s: Scheduler,
@@ -105,47 +120,40 @@ impl Kernel {
         }
     }
 
-    // The same where thread `t` holds `h` afterwards: for services that are called seldom, since it costs a copy of the tables
-    // more than a store of the caller's own.
-    pub(crate) fn held_carried(
-        mut self,
-        t: ThreadId,
-        h: Held,
-        s: Scheduler,
-        status: u32,
-        ended: u32,
-    ) -> Answer
-        ensures { result ≡ answered (with_held self t.0 h) s status no_words ended }
+    // The running thread begins to wait at a place, at the end of its line or at the front, and holds `h`.
+    fn begin_wait(&mut self, front: bool, p: Place, ticks: u32, h: Held)
+        ensures { self.new ≡ edited self.old (moves (runner_of self.old) (starts front p.state p.number ticks h)) }
     {
-        let i = t.0 as usize;
-        if i < THREADS {
-            self.held[i] = h;
-        }
-        self.carried(s, status, [0; MESSAGE_WORDS], ended)
+        let s = self.scheduler;
+        store(&mut self.held, s.running.0, h);
+        self.scheduler = with_runner_waiting(s, front, p, ticks);
+    }
+
+    // The wait of thread `t` ends: its object serves it with words.
+    fn serve(&mut self, t: ThreadId, words: [u32; MESSAGE_WORDS])
+        ensures { (d : Kind) → (n : ℕ) → self.new ≡ edited self.old (moves t.0 (ends (served d n) words)) }
+    {
+        let s = self.scheduler;
+        store(&mut self.held, t.0, Held::of(SUCCESS, words));
+        self.scheduler = s.woken(t);
     }
 }
 
-// The record of semaphore `n`, that of an uncreated one past the table.
-pub(crate) fn semaphore_in(all: [Semaphore; SEMAPHORES], n: SemaphoreId) -> Semaphore
-    ensures { result ≡ get_or all n.0 no_semaphore }
+// Record `n` of a table, and `none` past it.
+pub(crate) fn record_in<T: Copy>(all: &[T], n: u8, none: T) -> T
+    ensures { result ≡ get_or all.now n none }
 {
-    let i = n.0 as usize;
-    if i < SEMAPHORES {
-        all[i]
-    } else {
-        Semaphore::none()
-    }
+    all.get(n as usize).copied().unwrap_or(none)
 }
 
-// What thread `t` holds, nothing past the table.
-pub(crate) fn held_in(all: [Held; THREADS], t: ThreadId) -> Held
-    ensures { result ≡ get_or all t.0 no_held }
+// Record `n` of a table is another; past the table nothing changes.
+// By index: what `get_mut` promises says nothing of the table afterwards.
+pub(crate) fn store<T: Copy>(all: &mut [T], n: u8, x: T)
+    ensures { all.new ≡ set all.old n x }
 {
-    let i = t.0 as usize;
-    if i < THREADS {
-        all[i]
-    } else {
-        Held::of(0, [0; MESSAGE_WORDS])
+    let i = n as usize;
+    if i < all.len() {
+        all[i] = x;
     }
 }
 

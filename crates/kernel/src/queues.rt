@@ -1,47 +1,25 @@
 // Queue services.
-ghost use Rattle.std.specs.Prelude.{◌≡◌, get_or, length};
-ghost use Rattle.objects.specs.Queues.{no_queue, empty_queue};
+ghost use Rattle.std.specs.Prelude.{◌≡◌, length};
+ghost use Rattle.objects.specs.Queues.{empty_queue};
 ghost use Rattle.calls.specs.Messages.{message_in};
 ghost use Rattle.calls.specs.Chains.{queue_create_refusal, queue_delete_refusal, send_refusal, receive_refusal, queue_refusal};
 ghost use Rattle.kernel.specs.Tables.{queue_at};
 ghost use Rattle.kernel.specs.Answers.{answer_of};
 ghost use Rattle.kernel.specs.Kinds.{Kind};
-ghost use Rattle.kernel.specs.Edits.{Cause, Holds, carried_out, guarded};
-ghost use Rattle.kernel.specs.Effects.{store_effect, close_effect, remove_effect, rank_effect};
+ghost use Rattle.kernel.specs.Edits.{guarded};
+ghost use Rattle.kernel.specs.Effects.{store_effect, remove_effect, rank_effect};
 ghost use Rattle.kernel.specs.Queues.{send_effect, receive_effect, flush_effect};
 
-use super::waits::with_runner_waiting;
-use super::{Answer, Kernel};
+use super::{Answer, Kernel, NO_WORDS, record_in, store};
 use calls::held::Held;
 use calls::message::message_in;
 use calls::refusal;
 use calls::status::{DELETED, SUCCESS, WAITING};
-use numbers::{MESSAGE_WORDS, QUEUES, QueueId, THREADS};
+use numbers::{NOBODY, QueueId};
 use objects::queue::Queue;
 use scheduler::thread::Place;
 
-// The record of queue `n`, that of an uncreated one past the table.
-fn queue_in(all: [Queue; QUEUES], n: QueueId) -> Queue
-    ensures { result ≡ get_or all n.0 no_queue }
-{
-    let i = n.0 as usize;
-    if i < QUEUES { all[i] } else { Queue::none() }
-}
-
 impl Kernel {
-    // The waits of all at queue `n` end with a status, and the queue has another record.
-    fn queue_ended(mut self, n: QueueId, q: Queue, status: u32) -> Answer
-        ensures { (c : Cause) → Holds c status → result ≡ answer_of (carried_out self (close_effect self c Kind.queue n.0 q)) }
-    {
-        let s = self.scheduler;
-        let line = s.line_at(Place::queue(n));
-        let i = n.0 as usize;
-        if i < QUEUES {
-            self.queues[i] = q;
-        }
-        self.ended_each(line, status, [0; MESSAGE_WORDS])
-    }
-
     pub(crate) fn queue_create(
         mut self,
         caller: u32,
@@ -51,29 +29,24 @@ impl Kernel {
     ) -> Answer
         ensures { result ≡ answer_of (guarded self (queue_create_refusal n.0 (queue_at self n.0) words storage caller) (store_effect Kind.queue n.0 (empty_queue words storage))) }
     {
-        let all = self.queues;
-        let reason = refusal::queue_create(n, queue_in(all, n), words, storage, caller);
-        if reason != 0 {
-            return self.refused(reason);
+        let q = record_in(&self.queues, n.0, Queue::none());
+        if let Err(reason) = refusal::queue_create(n, q, words, storage, caller) {
+            return self.refused(u32::from(reason));
         }
-        let s = self.scheduler;
-        let q = Queue::of(words, storage);
-        let i = n.0 as usize;
-        if i < QUEUES {
-            self.queues[i] = q;
-        }
-        self.carried(s, SUCCESS, [0; MESSAGE_WORDS], 0)
+        store(&mut self.queues, n.0, Queue::of(words, storage));
+        self.carried(self.scheduler, SUCCESS, NO_WORDS, 0)
     }
 
-    pub(crate) fn queue_delete(self, caller: u32, n: QueueId) -> Answer
+    pub(crate) fn queue_delete(mut self, caller: u32, n: QueueId) -> Answer
         ensures { result ≡ answer_of (guarded self (queue_delete_refusal (queue_at self n.0) caller) (remove_effect self Kind.queue n.0)) }
     {
-        let all = self.queues;
-        let reason = refusal::queue_delete(queue_in(all, n), caller);
-        if reason != 0 {
-            return self.refused(reason);
+        let q = record_in(&self.queues, n.0, Queue::none());
+        if let Err(reason) = refusal::queue_delete(q, caller) {
+            return self.refused(u32::from(reason));
         }
-        self.queue_ended(n, Queue::none(), DELETED)
+        let line = self.scheduler.line_at(Place::queue(n));
+        store(&mut self.queues, n.0, Queue::none());
+        self.ended_each(line, DELETED, NO_WORDS)
     }
 
     // Send, and front send where `front` says so. The message is at `index` of the lent words; it goes to the first receiver in
@@ -89,122 +62,79 @@ impl Kernel {
     ) -> Answer
         ensures { result ≡ answer_of (guarded self (send_refusal (queue_at self n.0) index (length messages.now) wait caller) (send_effect self n.0 wait front (message_in messages.now index (queue_at self n.0).words))) }
     {
-        let all = self.queues;
-        let q = queue_in(all, n);
-        let reason = refusal::send(q, index, messages.len(), wait, caller);
-        if reason != 0 {
-            return self.refused(reason);
+        let q = record_in(&self.queues, n.0, Queue::none());
+        if let Err(reason) = refusal::send(q, index, messages.len(), wait, caller) {
+            return self.refused(u32::from(reason));
         }
         let message = message_in(messages, index, q.words);
-        let mut s = self.scheduler;
-        let mut status = SUCCESS;
-        let mut ended: u32 = 0;
-        if q.has_room() {
-            let f = s.first_at(Place::queue(n));
-            let i = f.0 as usize;
-            if i < THREADS {
-                let h = Held::of(SUCCESS, message);
-                self.held[i] = h;
-                s = s.woken(f);
-                ended = 1;
+        let (status, ended) = if q.has_room() {
+            let first = self.scheduler.first_at(Place::queue(n));
+            if first.0 < NOBODY {
+                self.serve(first, message);
+                (SUCCESS, 1)
             } else {
-                let filled = q.with_sent(front, message);
-                let j = n.0 as usize;
-                if j < QUEUES {
-                    self.queues[j] = filled;
-                }
+                store(&mut self.queues, n.0, q.with_sent(front, message));
+                (SUCCESS, 0)
             }
         } else {
-            let t = s.running;
-            let i = t.0 as usize;
-            s = with_runner_waiting(s, front, Place::queue(n), wait);
-            status = WAITING;
-            if i < THREADS {
-                let h = Held::sender(front, message);
-                self.held[i] = h;
-            }
-        }
-        self.carried(s, status, [0; MESSAGE_WORDS], ended)
+            self.begin_wait(front, Place::queue(n), wait, Held::sender(front, message));
+            (WAITING, 0)
+        };
+        self.carried(self.scheduler, status, NO_WORDS, ended)
     }
 
     // The receiver waits, or gets a message; the first sender in line may then pass or store its own.
     pub(crate) fn queue_receive(mut self, caller: u32, n: QueueId, wait: u32) -> Answer
         ensures { result ≡ answer_of (guarded self (receive_refusal (queue_at self n.0) wait caller) (receive_effect self n.0 wait)) }
     {
-        let all = self.queues;
-        let q = queue_in(all, n);
-        let reason = refusal::receive(q, wait, caller);
-        if reason != 0 {
-            return self.refused(reason);
+        let q = record_in(&self.queues, n.0, Queue::none());
+        if let Err(reason) = refusal::receive(q, wait, caller) {
+            return self.refused(u32::from(reason));
         }
-        let mut s = self.scheduler;
-        let mut status = SUCCESS;
-        let mut ended: u32 = 0;
-        let mut words: [u32; MESSAGE_WORDS] = [0; MESSAGE_WORDS];
-        if q.is_empty() {
-            let t = s.running;
-            let i = t.0 as usize;
-            s = with_runner_waiting(s, false, Place::queue(n), wait);
-            status = WAITING;
-            if i < THREADS {
-                let h = Held::of(WAITING, [0; MESSAGE_WORDS]);
-                self.held[i] = h;
-            }
+        let (status, words, ended) = if q.is_empty() {
+            self.begin_wait(false, Place::queue(n), wait, Held::of(WAITING, NO_WORDS));
+            (WAITING, NO_WORDS, 0)
         } else {
-            let f = s.first_at(Place::queue(n));
-            let i = f.0 as usize;
-            let mut left = q;
-            if i < THREADS {
-                let sender = self.held[i];
+            let first = self.scheduler.first_at(Place::queue(n));
+            if first.0 < NOBODY {
+                let sender = record_in(&self.held, first.0, Held::of(0, NO_WORDS));
                 let message = sender.message();
-                words = q.given_past(sender.front, message);
-                left = q.left_past(sender.front, message);
-                let h = Held::of(SUCCESS, [0; MESSAGE_WORDS]);
-                self.held[i] = h;
-                s = s.woken(f);
-                ended = 1;
+                self.serve(first, NO_WORDS);
+                store(&mut self.queues, n.0, q.left_past(sender.front, message));
+                (SUCCESS, q.given_past(sender.front, message), 1)
             } else {
-                words = q.oldest();
-                left = q.without_oldest();
+                store(&mut self.queues, n.0, q.without_oldest());
+                (SUCCESS, q.oldest(), 0)
             }
-            let j = n.0 as usize;
-            if j < QUEUES {
-                self.queues[j] = left;
-            }
-        }
-        self.carried(s, status, words, ended)
+        };
+        self.carried(self.scheduler, status, words, ended)
     }
 
-    pub(crate) fn queue_flush(self, n: QueueId) -> Answer
+    pub(crate) fn queue_flush(mut self, n: QueueId) -> Answer
         ensures { result ≡ answer_of (guarded self (queue_refusal (queue_at self n.0)) (flush_effect self n.0)) }
     {
-        let all = self.queues;
-        let q = queue_in(all, n);
-        let reason = refusal::queue(q);
-        if reason != 0 {
-            return self.refused(reason);
+        let q = record_in(&self.queues, n.0, Queue::none());
+        if let Err(reason) = refusal::queue(q) {
+            return self.refused(u32::from(reason));
         }
         if q.is_empty() {
-            let s = self.scheduler;
-            return self.carried(s, SUCCESS, [0; MESSAGE_WORDS], 0);
+            return self.carried(self.scheduler, SUCCESS, NO_WORDS, 0);
         }
-        self.queue_ended(n, q.flushed(), SUCCESS)
+        let line = self.scheduler.line_at(Place::queue(n));
+        store(&mut self.queues, n.0, q.flushed());
+        self.ended_each(line, SUCCESS, NO_WORDS)
     }
 
     pub(crate) fn queue_prioritize(self, n: QueueId) -> Answer
         ensures { result ≡ answer_of (guarded self (queue_refusal (queue_at self n.0)) (rank_effect Kind.queue n.0)) }
     {
-        let all = self.queues;
-        let reason = refusal::queue(queue_in(all, n));
-        if reason != 0 {
-            return self.refused(reason);
+        // From a copy of the queues: a borrow would copy all tables.
+        let queues = self.queues;
+        let q = record_in(&queues, n.0, Queue::none());
+        if let Err(reason) = refusal::queue(q) {
+            return self.refused(u32::from(reason));
         }
-        let s = self.scheduler;
-        self.carried(
-            s.prioritised(Place::queue(n)),
-            SUCCESS,
-            [0; MESSAGE_WORDS],
-            0,
-        )
+        let s = self.scheduler.prioritised(Place::queue(n));
+        self.carried(s, SUCCESS, NO_WORDS, 0)
     }
 }

@@ -1,38 +1,26 @@
 // Semaphore services.
-ghost use Rattle.std.specs.Prelude.{◌≡◌, set};
+ghost use Rattle.std.specs.Prelude.{◌≡◌};
+ghost use Rattle.calls.specs.Held.{no_words};
+ghost use Rattle.calls.specs.Statuses.{success};
 ghost use Rattle.calls.specs.Chains.{semaphore_create_refusal, semaphore_get_refusal, put_refusal, ceiling_refusal, semaphore_refusal, semaphore_delete_refusal};
 ghost use Rattle.kernel.specs.Tables.{semaphore_at};
 ghost use Rattle.kernel.specs.Answers.{answer_of};
+ghost use Rattle.kernel.specs.Loops.{answered};
 ghost use Rattle.kernel.specs.Kinds.{Kind};
-ghost use Rattle.kernel.specs.Edits.{guarded};
-ghost use Rattle.kernel.specs.Effects.{store_effect, remove_effect, rank_effect, counting};
+ghost use Rattle.kernel.specs.Edits.{carried_out, guarded};
+ghost use Rattle.kernel.specs.Effects.{store_effect, give_effect, remove_effect, rank_effect, counting};
 ghost use Rattle.kernel.specs.Semaphores.{semaphore_get_effect, put_effect};
 
-use super::waits::with_runner_waiting;
-use super::{Answer, Kernel, semaphore_in};
+use super::{Answer, Kernel, NO_WORDS, record_in, store};
 use calls::held::Held;
 use calls::refusal;
 use calls::status::{DELETED, SUCCESS, WAITING};
-use numbers::{MESSAGE_WORDS, SEMAPHORES, SemaphoreId, THREADS};
+use numbers::{NOBODY, SemaphoreId};
 use objects::semaphore::Semaphore;
 use scheduler::thread::Place;
 
-// The semaphores with another record for `n`.
-fn semaphores_with(
-    mut all: [Semaphore; SEMAPHORES],
-    n: SemaphoreId,
-    x: Semaphore,
-) -> [Semaphore; SEMAPHORES]
-    ensures { result ≡ set all n.0 x }
-{
-    let i = n.0 as usize;
-    if i < SEMAPHORES {
-        all[i] = x;
-    }
-    all
-}
-
 // A created semaphore with a count.
+#[tactic(auto, unfolding(crate::specs::Effects::counting))]
 fn counting(count: u32) -> Semaphore
     ensures { result ≡ counting count }
 {
@@ -43,114 +31,94 @@ fn counting(count: u32) -> Semaphore
 }
 
 impl Kernel {
+    // The first waiter is served, else the semaphore has this count; so many waits have ended.
+    fn put(&mut self, n: SemaphoreId, count: u32) -> u32
+        ensures { answered self.new self.new.scheduler success no_words result ≡ answer_of (carried_out self.old (give_effect self.old Kind.semaphore n.0 no_words (counting count))) }
+    {
+        let first = self.scheduler.first_at(Place::semaphore(n));
+        if first.0 < NOBODY {
+            self.serve(first, NO_WORDS);
+            1
+        } else {
+            store(&mut self.semaphores, n.0, counting(count));
+            0
+        }
+    }
+
     pub(crate) fn semaphore_create(mut self, caller: u32, n: SemaphoreId, count: u32) -> Answer
         ensures { result ≡ answer_of (guarded self (semaphore_create_refusal n.0 (semaphore_at self n.0) caller) (store_effect Kind.semaphore n.0 (counting count))) }
     {
-        let all = self.semaphores;
-        let reason = refusal::semaphore_create(n, semaphore_in(all, n), caller);
-        if reason != 0 {
-            return self.refused(reason);
+        let x = record_in(&self.semaphores, n.0, Semaphore::none());
+        if let Err(reason) = refusal::semaphore_create(n, x, caller) {
+            return self.refused(u32::from(reason));
         }
-        let s = self.scheduler;
-        let changed = semaphores_with(all, n, counting(count));
-        self.semaphores = changed;
-        self.carried(s, SUCCESS, [0; MESSAGE_WORDS], 0)
+        store(&mut self.semaphores, n.0, counting(count));
+        self.carried(self.scheduler, SUCCESS, NO_WORDS, 0)
     }
 
     pub(crate) fn semaphore_get(mut self, caller: u32, n: SemaphoreId, wait: u32) -> Answer
         ensures { result ≡ answer_of (guarded self (semaphore_get_refusal (semaphore_at self n.0) wait caller) (semaphore_get_effect self n.0 wait)) }
     {
-        let all = self.semaphores;
-        let x = semaphore_in(all, n);
-        let reason = refusal::semaphore_get(x, wait, caller);
-        if reason != 0 {
-            return self.refused(reason);
+        let x = record_in(&self.semaphores, n.0, Semaphore::none());
+        if let Err(reason) = refusal::semaphore_get(x, wait, caller) {
+            return self.refused(u32::from(reason));
         }
-        let mut s = self.scheduler;
-        let mut status = SUCCESS;
-        if 0 < x.count {
-            let changed = semaphores_with(all, n, counting(x.count - 1));
-            self.semaphores = changed;
+        let status = if 0 < x.count {
+            store(&mut self.semaphores, n.0, counting(x.count - 1));
+            SUCCESS
         } else {
-            let t = s.running;
-            let i = t.0 as usize;
-            s = with_runner_waiting(s, false, Place::semaphore(n), wait);
-            status = WAITING;
-            if i < THREADS {
-                let h = Held::of(WAITING, [0; MESSAGE_WORDS]);
-                self.held[i] = h;
-            }
-        }
-        self.carried(s, status, [0; MESSAGE_WORDS], 0)
+            let h = Held::of(WAITING, NO_WORDS);
+            self.begin_wait(false, Place::semaphore(n), wait, h);
+            WAITING
+        };
+        self.carried(self.scheduler, status, NO_WORDS, 0)
     }
 
-    // The first waiter is served, else the count goes up by one; a put at the largest count is refused.
     pub(crate) fn semaphore_put(mut self, n: SemaphoreId) -> Answer
         ensures { result ≡ answer_of (guarded self (put_refusal (semaphore_at self n.0)) (put_effect self n.0)) }
     {
-        let all = self.semaphores;
-        let x = semaphore_in(all, n);
-        let reason = refusal::put(x);
-        if reason != 0 {
-            return self.refused(reason);
+        let x = record_in(&self.semaphores, n.0, Semaphore::none());
+        if let Err(reason) = refusal::put(x) {
+            return self.refused(u32::from(reason));
         }
-        let mut s = self.scheduler;
-        let mut ended: u32 = 0;
-        let f = s.first_at(Place::semaphore(n));
-        let i = f.0 as usize;
-        if i < THREADS {
-            let h = Held::of(SUCCESS, [0; MESSAGE_WORDS]);
-            self.held[i] = h;
-            s = s.woken(f);
-            ended = 1;
-        } else {
-            let changed = semaphores_with(all, n, counting(x.count + 1));
-            self.semaphores = changed;
-        }
-        self.carried(s, SUCCESS, [0; MESSAGE_WORDS], ended)
+        let ended = self.put(n, x.count + 1);
+        self.carried(self.scheduler, SUCCESS, NO_WORDS, ended)
     }
 
     // A put that the ceiling does not forbid.
-    pub(crate) fn semaphore_ceiling_put(self, n: SemaphoreId, ceiling: u32) -> Answer
+    pub(crate) fn semaphore_ceiling_put(mut self, n: SemaphoreId, ceiling: u32) -> Answer
         ensures { result ≡ answer_of (guarded self (ceiling_refusal (semaphore_at self n.0) ceiling) (put_effect self n.0)) }
     {
-        let all = self.semaphores;
-        let reason = refusal::ceiling_put(semaphore_in(all, n), ceiling);
-        if reason != 0 {
-            return self.refused(reason);
+        let x = record_in(&self.semaphores, n.0, Semaphore::none());
+        if let Err(reason) = refusal::ceiling_put(x, ceiling) {
+            return self.refused(u32::from(reason));
         }
-        self.semaphore_put(n)
+        let ended = self.put(n, x.count + 1);
+        self.carried(self.scheduler, SUCCESS, NO_WORDS, ended)
     }
 
     pub(crate) fn semaphore_prioritize(self, n: SemaphoreId) -> Answer
         ensures { result ≡ answer_of (guarded self (semaphore_refusal (semaphore_at self n.0)) (rank_effect Kind.semaphore n.0)) }
     {
-        let all = self.semaphores;
-        let reason = refusal::semaphore(semaphore_in(all, n));
-        if reason != 0 {
-            return self.refused(reason);
+        // From a copy of the semaphores: a borrow would copy all tables.
+        let semaphores = self.semaphores;
+        let x = record_in(&semaphores, n.0, Semaphore::none());
+        if let Err(reason) = refusal::semaphore(x) {
+            return self.refused(u32::from(reason));
         }
-        let s = self.scheduler;
-        self.carried(
-            s.prioritised(Place::semaphore(n)),
-            SUCCESS,
-            [0; MESSAGE_WORDS],
-            0,
-        )
+        let s = self.scheduler.prioritised(Place::semaphore(n));
+        self.carried(s, SUCCESS, NO_WORDS, 0)
     }
 
     pub(crate) fn semaphore_delete(mut self, caller: u32, n: SemaphoreId) -> Answer
         ensures { result ≡ answer_of (guarded self (semaphore_delete_refusal (semaphore_at self n.0) caller) (remove_effect self Kind.semaphore n.0)) }
     {
-        let all = self.semaphores;
-        let reason = refusal::semaphore_delete(semaphore_in(all, n), caller);
-        if reason != 0 {
-            return self.refused(reason);
+        let x = record_in(&self.semaphores, n.0, Semaphore::none());
+        if let Err(reason) = refusal::semaphore_delete(x, caller) {
+            return self.refused(u32::from(reason));
         }
-        let s = self.scheduler;
-        let line = s.line_at(Place::semaphore(n));
-        let changed = semaphores_with(all, n, Semaphore::none());
-        self.semaphores = changed;
-        self.ended_each(line, DELETED, [0; MESSAGE_WORDS])
+        let line = self.scheduler.line_at(Place::semaphore(n));
+        store(&mut self.semaphores, n.0, Semaphore::none());
+        self.ended_each(line, DELETED, NO_WORDS)
     }
 }

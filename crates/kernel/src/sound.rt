@@ -1,90 +1,91 @@
 // The test of the tables: scheduling, what threads hold and wait for, and the records of the objects.
 ghost use Rattle.std.specs.Prelude.{◌≡◌};
+ghost use Rattle.blocks.specs.Pools.{pool_fitb};
+ghost use Rattle.kernel.specs.Loops.{asks_fitb};
 ghost use Rattle.kernel.specs.Sound.{soundb};
+ghost use Rattle.objects.specs.Queues.{queue_fitb};
+ghost use Rattle.waiting.specs.Fit.{held_fitb};
 
 use super::Kernel;
-use numbers::{GROUPS, POOLS, QUEUES, SEMAPHORES, THREADS};
-use scheduler::thread::{ON_BLOCK, ON_FLAGS, ON_QUEUE, ON_SEMAPHORE};
+use blocks::pool::Pool;
+use calls::held::Held;
+use numbers::THREADS;
+use objects::queue::Queue;
+use scheduler::thread::{ON_BLOCK, ON_FLAGS, ON_QUEUE, ON_SEMAPHORE, Thread};
 use waiting::fit::{
     group_waits, groups_fit, paused_fits, pool_waits, queue_waits, resting_fits, semaphore_waits,
-    semaphores_fit, unheld_fits, waits_on,
+    semaphores_fit, unheld_fits,
 };
 
+// Whether a thread with this record may hold `h`.
+fn held_fits(th: Thread, h: &Held) -> bool
+    ensures { result ≡ held_fitb th h.now }
+{
+    if th.is_paused() {
+        paused_fits(th, *h)
+    } else if th.created {
+        resting_fits(*h)
+    } else {
+        unheld_fits(*h)
+    }
+}
+
+// Whether a queue's record is fit in itself. An empty one is tested faster.
+fn queue_fits(q: &Queue) -> bool
+    ensures { result ≡ queue_fitb q.now }
+{
+    if q.stored == 0 {
+        q.is_fit_empty()
+    } else {
+        q.is_fit()
+    }
+}
+
+// Whether a pool's record is fit in itself. An uncreated one is tested faster.
+fn pool_fits(p: &Pool) -> bool
+    ensures { result ≡ pool_fitb p.now }
+{
+    if p.created { p.is_fit() } else { p.is_zero() }
+}
+
 impl Kernel {
-    // Whether the tables are sound. A record is read only in the branch that tests it: read before, all its words would be
-    // carried from branch to branch. The large tables are tested here, since a function over one of them would copy it.
+    // Whether a thread that holds `h` may wait on what it waits on, if it waits.
+    fn wait_fits(&self, th: Thread, h: &Held) -> bool
+        ensures { result ≡ asks_fitb self.now th h.now }
+    {
+        if !th.created {
+            return true;
+        }
+        let n = th.object as usize;
+        match th.state {
+            ON_QUEUE => self.queues.get(n).is_some_and(|q| queue_waits(*h, *q)),
+            ON_SEMAPHORE => self.semaphores.get(n).is_some_and(|x| semaphore_waits(*x)),
+            ON_FLAGS => self.groups.get(n).is_some_and(|g| group_waits(*h, *g)),
+            ON_BLOCK => self.pools.get(n).is_some_and(|p| pool_waits(*p)),
+            _ => true,
+        }
+    }
+
+    // Whether the tables are sound.
     pub fn is_sound(self) -> bool
         ensures { result ≡ soundb self }
     {
         let s = self.scheduler;
-        let scheduler = s.is_sound();
         let mut held = true;
         let mut waits = true;
-        let mut t: usize = 0;
-        while t < THREADS {
+        for (t, h) in self.held.iter().enumerate() {
             let th = s.threads[t];
-            let n = th.object as usize;
-            if th.is_paused() {
-                let h = self.held[t];
-                held = held & paused_fits(th, h);
-                t += 1;
-                if waits_on(th, ON_QUEUE) {
-                    if n < QUEUES {
-                        waits = waits & queue_waits(h, self.queues[n]);
-                    } else {
-                        waits = false;
-                    }
-                } else if waits_on(th, ON_SEMAPHORE) {
-                    if n < SEMAPHORES {
-                        waits = waits & semaphore_waits(self.semaphores[n]);
-                    } else {
-                        waits = false;
-                    }
-                } else if waits_on(th, ON_FLAGS) {
-                    if n < GROUPS {
-                        waits = waits & group_waits(h, self.groups[n]);
-                    } else {
-                        waits = false;
-                    }
-                } else if waits_on(th, ON_BLOCK) {
-                    if n < POOLS {
-                        waits = waits & pool_waits(self.pools[n]);
-                    } else {
-                        waits = false;
-                    }
-                }
-            } else if th.created {
-                held = held & resting_fits(self.held[t]);
-                t += 1;
-            } else {
-                held = held & unheld_fits(self.held[t]);
-                t += 1;
-            }
+            held &= held_fits(th, h);
+            waits &= self.wait_fits(th, h);
         }
-        let mut queues = true;
-        let mut q: usize = 0;
-        while q < QUEUES {
-            if self.queues[q].stored == 0 {
-                queues = queues & self.queues[q].is_fit_empty();
-                q += 1;
-            } else {
-                queues = queues & self.queues[q].is_fit();
-                q += 1;
-            }
-        }
-        let mut pools = true;
-        let mut p: usize = 0;
-        while p < POOLS {
-            if self.pools[p].created {
-                pools = pools & self.pools[p].is_fit();
-                p += 1;
-            } else {
-                pools = pools & self.pools[p].is_zero();
-                p += 1;
-            }
-        }
-        let semaphores = self.semaphores;
-        let groups = self.groups;
-        scheduler & held & waits & semaphores_fit(semaphores) & queues & groups_fit(groups) & pools
+        let queues = self.queues.iter().fold(true, |ok, q| ok & queue_fits(q));
+        let pools = self.pools.iter().fold(true, |ok, p| ok & pool_fits(p));
+        s.is_sound()
+            & held
+            & waits
+            & semaphores_fit(self.semaphores)
+            & queues
+            & groups_fit(self.groups)
+            & pools
     }
 }

@@ -1,4 +1,4 @@
-// Waits: their start, and the end of several at once.
+// Waits: the scheduler when one begins, and the end of several at once.
 ghost use Rattle.std.specs.Prelude.{◌≡◌};
 ghost use Rattle.scheduler.specs.Orders.{thread_at, joined, moved};
 ghost use Rattle.lines.specs.Lines.{members};
@@ -7,11 +7,11 @@ ghost use Rattle.kernel.specs.Answers.{answer_of};
 ghost use Rattle.kernel.specs.Edits.{Cause, Holds, carried_out};
 ghost use Rattle.kernel.specs.Effects.{does, ends_each};
 
-use super::{Answer, Kernel};
+use super::{Answer, Kernel, NO_WORDS, store};
 use calls::held::Held;
 use calls::status::SUCCESS;
 use lines::Line;
-use numbers::{MESSAGE_WORDS, THREADS, ThreadId};
+use numbers::{MESSAGE_WORDS, ThreadId};
 use scheduler::Scheduler;
 use scheduler::thread::Place;
 
@@ -43,20 +43,12 @@ impl Kernel {
     ) -> Answer
         ensures { (c : Cause) → Holds c status → result ≡ answer_of (carried_out self (does (ends_each c words (members line)))) }
     {
-        let ids = line.ids;
-        let n = line.size() as usize;
         let h = Held::of(status, words);
         let mut s = self.scheduler;
-        let mut i: usize = 0;
-        while i < n {
-            let x = ThreadId(ids[i]);
-            let t = x.0 as usize;
-            i += 1;
-            s = s.woken(x);
-            if t < THREADS {
-                self.held[t] = h;
-            }
+        for x in line.as_slice() {
+            s = s.woken(ThreadId(*x));
+            store(&mut self.held, *x, h);
         }
-        self.carried(s, SUCCESS, [0; MESSAGE_WORDS], n as u32)
+        self.carried(s, SUCCESS, NO_WORDS, u32::from(line.size()))
     }
 }

@@ -6,3 +6,4 @@ pub mod Lines
 pub mod Tallies
 pub mod Bits
 pub mod Slots
+pub mod Folds

@@ -1,5 +1,5 @@
 -- A line in its slots: who stands in it, and the line that a list makes.
-use Rattle.std.specs.Prelude.{List, [], ◌∷◌, Bool, ◌&&◌, ◌||◌, ℕ, zero, suc, length, take, get_or, eqb, ltb, leb}
+use Rattle.std.specs.Prelude.{if◌then◌else◌, List, [], ◌∷◌, Bool, ◌&&◌, ◌||◌, ℕ, zero, suc, ◌+◌, length, take, get_or, set, eqb, ltb, leb}
 use Rattle.numbers.specs.Numbers.{threads}
 use Rattle.lines.specs.Logic.{all_below}
 use Rattle.lines.specs.declared.Line.{Line}
@@ -21,6 +21,10 @@ pad (suc n) (x ∷ xs) = x ∷ pad n xs
 -- the line in which the first 32 of xs stand, the slots behind them zero
 unfoldable pub line_of : List ℕ → Line
 line_of xs = record { ids = pad capacity xs; len = length (take capacity xs) }
+
+-- one more behind the last, where there is room
+unfoldable pub pushed : Line → ℕ → Line
+pushed l t = if ltb l.len capacity then record { ids = set l.ids l.len t; len = l.len + 1 } else l
 
 -- rules 12.1, 12.7: at most 32 stand in the line, and the slots behind them are zero
 unfoldable pub cleanb : Line → Bool

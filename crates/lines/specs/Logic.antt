@@ -1,5 +1,5 @@
 -- Choices by a test, and tests of a range.
-use Rattle.std.specs.Prelude.{if◌then◌else◌, Bool, true, false, ◌&&◌, ◌||◌, not, ℕ, zero, suc}
+use Rattle.std.specs.Prelude.{if◌then◌else◌, Bool, true, ◌&&◌, ◌||◌, not, ℕ, zero, suc}
 
 -- 1 where the test holds, else 0
 unfoldable pub one_if : Bool → ℕ

@@ -2,17 +2,21 @@
 
 #![tactic(auto)]
 
-ghost use Rattle.std.specs.Prelude.{if◌then◌else◌, ◌≡◌, [], ◌++◌, length};
+pub mod slots;
+
+ghost use Rattle.std.specs.Prelude.{◌≡◌, List, ℕ, [], ◌∷◌, ◌++◌, length};
 ghost use Rattle.lines.specs.Lists.{without, only_if, to_end, to_front, count, first, fronted};
-ghost use Rattle.lines.specs.Lines.{members, line_of, cleanb};
+ghost use Rattle.lines.specs.Lines.{members, line_of, pushed, cleanb};
 ghost use Rattle.lines.specs.Loops.{slot_of, tally, better_of};
 
 use numbers::{NOBODY, THREADS, ThreadId};
+use slots::are_blank;
 
 // How many a line has room for.
 const CAPACITY: u8 = THREADS as u8;
 
 // An ordered line of thread numbers: the first `len` slots, in order. The slots behind them are zero.
+// An array and a length, and no Vec: the library has no heap, and these are the fields of the lent block.
 #[derive(Clone, Copy)]
 pub struct Line {
     pub ids: [u8; THREADS],
@@ -26,7 +30,8 @@ pub struct Best {
     pub key: u8,
 }
 
-// The largest key. It stands beside nobody, whose place a thread of any key takes.
+// The largest key. It stands beside nobody, whose place a thread of any key takes. No Option: `better_of` is of this key, and the choice compares
+// keys alone.
 pub const LARGEST_KEY: u8 = 255;
 
 impl Line {
@@ -44,64 +49,63 @@ impl Line {
     pub fn size(self) -> u8
         ensures { result ≡ length (members self) }
     {
-        if CAPACITY <= self.len {
-            CAPACITY
-        } else {
-            self.len
-        }
+        self.len.min(CAPACITY)
+    }
+
+    // The members, in order.
+    pub fn as_slice(&self) -> &[u8]
+        ensures { result.now ≡ members self.now }
+    {
+        &self.ids[..self.size() as usize]
     }
 
     // Who stands first.
+    #[tactic(auto, unfolding(crate::specs::Lists::first))]
     pub fn first(self) -> ThreadId
         ensures { result.0 ≡ first (members self) }
     {
-        if self.len == 0 {
-            ThreadId(NOBODY)
-        } else {
-            ThreadId(self.ids[0])
-        }
+        ThreadId(self.as_slice().first().copied().unwrap_or(NOBODY))
     }
 
     // How often `t` stands in the line.
     pub fn count(self, t: ThreadId) -> u8
         ensures { result ≡ count t.0 (members self) }
     {
-        let n = self.size() as usize;
-        let ids = self.ids;
         let mut k: u8 = 0;
-        let mut i: usize = 0;
-        while i < n {
-            let x = ids[i];
-            i += 1;
-            if x == t.0 {
+        for x in self.as_slice() {
+            if *x == t.0 {
                 k += 1;
             }
         }
         k
     }
 
+    // Puts `t` behind the last, where there is room.
+    #[tactic(auto, unfolding(crate::specs::Lines::pushed))]
+    pub fn push(&mut self, t: ThreadId)
+        ensures { self.new ≡ pushed self.old t.0 }
+    {
+        let n = self.len as usize;
+        if n < THREADS {
+            self.ids[n] = t.0;
+            self.len += 1;
+        }
+    }
+
     // The members other than `t`, in order, behind `t` itself where `lead` says so.
     fn gathered(self, lead: bool, t: ThreadId) -> Line
         ensures { result ≡ line_of (only_if lead t.0 ++ without t.0 (members self)) }
     {
-        let n = self.size() as usize;
-        let ids = self.ids;
-        let mut out: [u8; THREADS] = [0; THREADS];
-        out[0] = value_if(lead, t.0);
-        let mut len = value_if(lead, 1);
-        let mut i: usize = 0;
-        while i < n {
-            let x = ids[i];
-            i += 1;
-            if x != t.0 {
-                let k = len as usize;
-                if k < THREADS {
-                    out[k] = x;
-                    len += 1;
-                }
+        let mut l = Line::empty();
+        if lead {
+            l.push(t);
+        }
+        for x in self.as_slice() {
+            if *x != t.0 {
+                l.push(ThreadId(*x));
             }
         }
-        Line { ids: out, len }
+        l
     }
 
     // The line without `t`.
@@ -112,6 +116,7 @@ impl Line {
     }
 
     // The line with `t` at its front and nowhere else.
+    #[tactic(auto, unfolding(crate::specs::Lists::to_front))]
     pub fn joined_front(self, t: ThreadId) -> Line
         ensures { result ≡ line_of (to_front t.0 (members self)) }
     {
@@ -123,15 +128,12 @@ impl Line {
         ensures { result ≡ line_of (to_end t.0 (members self)) }
     {
         let mut l = self.gathered(false, t);
-        let n = l.len as usize;
-        if n < THREADS {
-            l.ids[n] = t.0;
-            l.len += 1;
-        }
+        l.push(t);
         l
     }
 
     // The line with `t` moved to its front, where it is somebody, and nothing else.
+    #[tactic(auto, unfolding(crate::specs::Lists::fronted))]
     pub fn fronted(self, t: ThreadId) -> Line
         ensures { result ≡ line_of (fronted t.0 (members self)) }
     {
@@ -142,13 +144,9 @@ impl Line {
     pub fn tally(self) -> [u8; THREADS + 1]
         ensures { result ≡ tally (members self) }
     {
-        let ids = self.ids;
-        let mut i = self.size() as usize;
         let mut counts: [u8; THREADS + 1] = [0; THREADS + 1];
-        while 0 < i {
-            i -= 1;
-            let k = slot(ThreadId(ids[i]));
-            counts[k] = counts[k] + 1;
+        for x in self.as_slice() {
+            counts[slot(ThreadId(*x))] += 1;
         }
         counts
     }
@@ -157,15 +155,8 @@ impl Line {
     pub fn is_clean(self) -> bool
         ensures { result ≡ cleanb self }
     {
-        let ids = self.ids;
         let n = self.size() as usize;
-        let mut any: u8 = 0;
-        let mut i = n;
-        while i < THREADS {
-            any = any | ids[i];
-            i += 1;
-        }
-        (self.len <= CAPACITY) & (any == 0)
+        (self.len <= CAPACITY) & are_blank(&self.ids[n..], 0)
     }
 }
 
@@ -179,11 +170,5 @@ pub fn better(x: ThreadId, k: u8, b: Best) -> Best
 fn slot(t: ThreadId) -> usize
     ensures { result ≡ slot_of t.0 }
 {
-    if t.0 < NOBODY { t.0 as usize } else { THREADS }
-}
-
-fn value_if(b: bool, x: u8) -> u8
-    ensures { result ≡ (if b then x else 0) }
-{
-    if b { x } else { 0 }
+    t.0.min(NOBODY) as usize
 }

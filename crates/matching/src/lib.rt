@@ -17,35 +17,25 @@ pub struct Matched {
     pub clears: u32,
 }
 
-// Tests every waiter of the line, in order, against the same flags. A thread's request and option stand under its number.
+// Tests every waiter of the line, in order, against the same flags. A thread's request and option stand under its number, in two arrays,
+// since `woken_of` and `clears_of`, by which the clauses say the answer, speak of two lists.
 pub fn woken(line: Line, flags: u32, requests: [u32; THREADS], options: [u8; THREADS]) -> Matched
     ensures line { result.line ≡ line_of (woken_of flags requests options (members line)) }
     ensures clears { result.clears ≡ clears_of flags requests options (members line) }
 {
-    let ids = line.ids;
-    let n = line.size() as usize;
-    let mut out: [u8; THREADS] = [0; THREADS];
-    let mut len: u8 = 0;
+    let mut woken = Line::empty();
     let mut clears: u32 = 0;
-    let mut i: usize = 0;
-    while i < n {
-        let x = ThreadId(ids[i]);
-        let t = x.0 as usize;
-        i += 1;
+    for x in line.as_slice() {
+        let t = *x as usize;
         if t < THREADS {
-            let own = cleared_by(requests[t], options[t]);
             if is_met(flags, requests[t], options[t]) {
-                clears = clears | own;
-                let k = len as usize;
-                if k < THREADS {
-                    out[k] = x.0;
-                    len += 1;
-                }
+                clears |= cleared_by(requests[t], options[t]);
+                woken.push(ThreadId(*x));
             }
         }
     }
     Matched {
-        line: Line { ids: out, len },
+        line: woken,
         clears,
     }
 }

@@ -24,7 +24,8 @@ pub const MESSAGE_WORDS: usize = 16;
 // A queue's store has so many words, and a pool's list room for so many blocks.
 pub const SLOTS: usize = 64;
 
-// The numbers that stand for nobody and for no object: one past the last.
+// The numbers that stand for nobody and for no object: one past the last. Numbers and no Option, since tables, tapes and replies hold them and
+// the clauses speak of them: `first_at`, `next_block`, the next thread of an answer.
 pub const NOBODY: u8 = THREADS as u8;
 
 pub const NO_SEMAPHORE: u8 = SEMAPHORES as u8;
@@ -37,7 +38,8 @@ pub const NO_POOL: u8 = POOLS as u8;
 
 pub const NO_BLOCK: u8 = SLOTS as u8;
 
-// The number of a thread, 0 to 31. 32 stands for nobody.
+// The number of a thread, 0 to 31. 32 stands for nobody. Each kind of thing has a type of its own, so that a queue's number cannot be taken for a
+// group's; a type with a parameter for the kind would say the same in more words.
 #[derive(Clone, Copy)]
 pub struct ThreadId(pub u8);
 
@@ -58,56 +60,46 @@ pub struct GroupId(pub u8);
 pub struct PoolId(pub u8);
 
 // A thread's number; every number past the last stands for nobody.
-pub fn thread_id(a: u32) -> ThreadId
-    ensures { result.0 ≡ min a threads }
-{
-    if a < THREADS as u32 {
-        ThreadId(a as u8)
-    } else {
-        ThreadId(NOBODY)
+impl From<u32> for ThreadId {
+    ghost from_gives = { λ a r. r.0 ≡ min a threads };
+
+    fn from(a: u32) -> ThreadId {
+        ThreadId(a.min(THREADS as u32) as u8)
     }
 }
 
 // A semaphore's number; every number past the last stands for none.
-pub fn semaphore_id(a: u32) -> SemaphoreId
-    ensures { result.0 ≡ min a semaphores }
-{
-    if a < SEMAPHORES as u32 {
-        SemaphoreId(a as u8)
-    } else {
-        SemaphoreId(NO_SEMAPHORE)
+impl From<u32> for SemaphoreId {
+    ghost from_gives = { λ a r. r.0 ≡ min a semaphores };
+
+    fn from(a: u32) -> SemaphoreId {
+        SemaphoreId(a.min(SEMAPHORES as u32) as u8)
     }
 }
 
 // A queue's number; every number past the last stands for none.
-pub fn queue_id(a: u32) -> QueueId
-    ensures { result.0 ≡ min a queues }
-{
-    if a < QUEUES as u32 {
-        QueueId(a as u8)
-    } else {
-        QueueId(NO_QUEUE)
+impl From<u32> for QueueId {
+    ghost from_gives = { λ a r. r.0 ≡ min a queues };
+
+    fn from(a: u32) -> QueueId {
+        QueueId(a.min(QUEUES as u32) as u8)
     }
 }
 
 // A group's number; every number past the last stands for none.
-pub fn group_id(a: u32) -> GroupId
-    ensures { result.0 ≡ min a groups }
-{
-    if a < GROUPS as u32 {
-        GroupId(a as u8)
-    } else {
-        GroupId(NO_GROUP)
+impl From<u32> for GroupId {
+    ghost from_gives = { λ a r. r.0 ≡ min a groups };
+
+    fn from(a: u32) -> GroupId {
+        GroupId(a.min(GROUPS as u32) as u8)
     }
 }
 
 // A pool's number; every number past the last stands for none.
-pub fn pool_id(a: u32) -> PoolId
-    ensures { result.0 ≡ min a pools }
-{
-    if a < POOLS as u32 {
-        PoolId(a as u8)
-    } else {
-        PoolId(NO_POOL)
+impl From<u32> for PoolId {
+    ghost from_gives = { λ a r. r.0 ≡ min a pools };
+
+    fn from(a: u32) -> PoolId {
+        PoolId(a.min(POOLS as u32) as u8)
     }
 }

@@ -3,11 +3,13 @@ ghost use Rattle.std.specs.Prelude.{◌≡◌};
 ghost use Rattle.objects.specs.Groups.{no_group, group_with, group_fitb, metb, clear_of, less_flags};
 
 // The options of a request are 0 OR, 1 OR and clear, 2 AND, 3 AND and clear: from this one on all its flags are asked for.
+// Numbers and no enum: tables may hold any byte here, and the rules (`metb`, `clear_of`) say what each of them asks for.
 pub const AND: u8 = 2;
 
 // Every flag.
 pub const ALL_FLAGS: u32 = 0xFFFFFFFF;
 
+// `created` stands beside the fields, and no Option around them: tables may hold an uncreated record that is not zero, which `group_fitb` refuses.
 #[derive(Clone, Copy)]
 pub struct Group {
     pub created: bool,
@@ -59,10 +61,9 @@ pub fn is_met(flags: u32, request: u32, option: u8) -> bool
 pub fn cleared_by(request: u32, option: u8) -> u32
     ensures { result ≡ clear_of request option }
 {
-    if (option == 1) | (option == 3) {
-        request
-    } else {
-        0
+    match option {
+        1 | 3 => request,
+        _ => 0,
     }
 }
 

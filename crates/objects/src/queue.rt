@@ -1,10 +1,10 @@
 // A message queue: messages of `words` words in a store of `storage` words, the oldest first.
-ghost use Rattle.std.specs.Prelude.{◌≡◌, ◌++◌, ◌&&◌, ◌-◌, min, get_or};
+ghost use Rattle.std.specs.Prelude.{◌≡◌, ◌&&◌, min};
 ghost use Rattle.lines.specs.Slots.{zero_from};
-ghost use Rattle.numbers.specs.Numbers.{message_words, slots};
-ghost use Rattle.lines.specs.Lines.{pad};
-ghost use Rattle.objects.specs.Queues.{no_queue, capacity_of, emptyb, fullb, roomb, used_words, sizes_fitb, queue_limitsb, queue_fitb, empty_queue, oldest, without_oldest, with_last, with_first, with_sent, given_past, left_past, flushed};
+ghost use Rattle.numbers.specs.Numbers.{slots};
+ghost use Rattle.objects.specs.Queues.{no_queue, capacity_of, emptyb, fullb, roomb, used_words, sizes_fitb, queue_limitsb, queue_fitb, empty_queue, stored_words, oldest, without_oldest, with_last, with_first, with_sent, given_past, left_past, flushed};
 
+use lines::slots::{are_blank, packed};
 use numbers::{MESSAGE_WORDS, SLOTS};
 
 // The longest message and the largest store, in words.
@@ -12,7 +12,8 @@ const LONGEST: u32 = MESSAGE_WORDS as u32;
 
 const LARGEST: u32 = SLOTS as u32;
 
-// `stored` counts messages; the words of the store behind them are zero.
+// `stored` counts messages; the words of the store behind them are zero. An array and a count, and no Vec: the library has no heap.
+// `created` stands beside the fields, and no Option around them: tables may hold an uncreated record that is not zero, which `queue_fitb` refuses.
 #[derive(Clone, Copy)]
 pub struct Queue {
     pub created: bool,
@@ -40,11 +41,7 @@ impl Queue {
     pub fn capacity(self) -> u8
         ensures { result ≡ capacity_of self }
     {
-        if self.words == 0 {
-            0
-        } else {
-            self.storage / self.words
-        }
+        self.storage.checked_div(self.words).unwrap_or(0)
     }
 
     // Whether no message is stored.
@@ -79,15 +76,8 @@ impl Queue {
     fn is_clean(self) -> bool
         ensures { result ≡ zero_from (used_words self) self.store }
     {
-        let store = self.store;
         let n = self.used();
-        let mut any: u32 = 0;
-        let mut i = n;
-        while i < SLOTS {
-            any = any | store[i];
-            i += 1;
-        }
-        any == 0
+        are_blank(&self.store[n..], 0)
     }
 
     // Whether the record is fit in itself: sizes and messages within bounds, what is not in use zero.
@@ -107,14 +97,7 @@ impl Queue {
     fn is_blank(self) -> bool
         ensures { result ≡ zero_from 0 self.store }
     {
-        let store = self.store;
-        let mut any: u32 = 0;
-        let mut i: usize = 0;
-        while i < SLOTS {
-            any = any | store[i];
-            i += 1;
-        }
-        any == 0
+        are_blank(&self.store, 0)
     }
 
     // Whether no message is stored and the record is fit in itself: the quick case, since then all words of the store are alike.
@@ -140,10 +123,9 @@ impl Queue {
     {
         Queue {
             created: true,
-            words: byte_of(words),
-            storage: byte_of(storage),
-            stored: 0,
-            store: [0; SLOTS],
+            words: u8::try_from(words).unwrap_or(u8::MAX),
+            storage: u8::try_from(storage).unwrap_or(u8::MAX),
+            ..Queue::none()
         }
     }
 
@@ -152,7 +134,14 @@ impl Queue {
         ensures { result ≡ min (used_words self) slots }
     {
         let words = (self.stored as usize) * (self.words as usize);
-        if words < SLOTS { words } else { SLOTS }
+        words.min(SLOTS)
+    }
+
+    // The words of the messages, those of the first message first.
+    fn stored_words(&self) -> &[u32]
+        ensures { result.now ≡ stored_words self.now }
+    {
+        &self.store[..self.used()]
     }
 
     // The queue with so many messages, in this store.
@@ -160,11 +149,9 @@ impl Queue {
         ensures { result ≡ record { created = self.created; words = self.words; storage = self.storage; stored = stored; store = store } }
     {
         Queue {
-            created: self.created,
-            words: self.words,
-            storage: self.storage,
             stored,
             store,
+            ..self
         }
     }
 
@@ -172,63 +159,51 @@ impl Queue {
     pub fn oldest(self) -> [u32; MESSAGE_WORDS]
         ensures { result ≡ oldest self }
     {
-        let store = self.store;
-        let used = self.used();
-        let size = at_most(self.words, used);
-        message_of(&store[..size])
+        let stored = self.stored_words();
+        let size = (self.words as usize).min(stored.len());
+        packed(0, &stored[..size], &[])
     }
 
     // The queue without its oldest message.
     pub fn without_oldest(self) -> Queue
         ensures { result ≡ without_oldest self }
     {
-        let store = self.store;
-        let used = self.used();
-        let from = at_most(self.words, used);
-        let none: [u32; 1] = [0; 1];
-        let left = packed(&store[from..used], &none[..0]);
-        self.storing(one_less(self.stored), left)
+        let stored = self.stored_words();
+        let from = (self.words as usize).min(stored.len());
+        let left = packed(0, &stored[from..], &[]);
+        self.storing(self.stored.saturating_sub(1), left)
     }
 
     // The queue with a message behind the others, where there is room.
     pub fn with_last(self, message: [u32; MESSAGE_WORDS]) -> Queue
         ensures { result ≡ with_last self message }
     {
-        if self.has_room() {
-            let store = self.store;
-            let used = self.used();
-            let size = at_most(self.words, MESSAGE_WORDS);
-            let all = packed(&store[..used], &message[..size]);
-            self.storing(self.stored + 1, all)
-        } else {
-            self
-        }
+        self.with_sent(false, message)
     }
 
     // The queue with a message before the others, where there is room.
     pub fn with_first(self, message: [u32; MESSAGE_WORDS]) -> Queue
         ensures { result ≡ with_first self message }
     {
-        if self.has_room() {
-            let store = self.store;
-            let used = self.used();
-            let size = at_most(self.words, MESSAGE_WORDS);
-            let all = packed(&message[..size], &store[..used]);
-            self.storing(self.stored + 1, all)
-        } else {
-            self
-        }
+        self.with_sent(true, message)
     }
 
     // The queue with a sent message: a front send's before the others, an ordinary one's behind them.
     pub fn with_sent(self, front: bool, message: [u32; MESSAGE_WORDS]) -> Queue
         ensures { result ≡ with_sent self front message }
     {
-        if front {
-            self.with_first(message)
-        } else {
-            self.with_last(message)
+        if !self.has_room() {
+            return self;
         }
+        let stored = self.stored_words();
+        let size = (self.words as usize).min(MESSAGE_WORDS);
+        let sent = &message[..size];
+        let store = if front {
+            packed(0, sent, stored)
+        } else {
+            packed(0, stored, sent)
+        };
+        self.storing(self.stored + 1, store)
     }
 
     // What a receive gives while a sender with this message is first in line: a front sender's message goes past the store.
@@ -253,8 +228,7 @@ impl Queue {
     pub fn flushed(self) -> Queue
         ensures { result ≡ flushed self }
     {
-        let store: [u32; SLOTS] = [0; SLOTS];
-        self.storing(0, store)
+        self.storing(0, [0; SLOTS])
     }
 }
 
@@ -271,70 +245,4 @@ pub fn sizes_fit(words: u32, storage: u32) -> bool
             & (storage <= LARGEST)
             & (1 <= storage / words)
     }
-}
-
-// A size as a byte; 255, which is no size, stands for all larger ones.
-fn byte_of(x: u32) -> u8
-    ensures { result ≡ min x 255 }
-{
-    if x < 255 { x as u8 } else { 255 }
-}
-
-// A number of words, or `most` where it is larger.
-fn at_most(words: u8, most: usize) -> usize
-    ensures { result ≡ min words most }
-{
-    let n = words as usize;
-    if n < most { n } else { most }
-}
-
-// One less, and 0 of 0.
-fn one_less(x: u8) -> u8
-    ensures { result ≡ x - 1 }
-{
-    if x == 0 { 0 } else { x - 1 }
-}
-
-// The word at place `i`, 0 behind the last.
-fn word_at(words: &[u32], i: usize) -> u32
-    ensures { result ≡ get_or words.now i 0 }
-{
-    if i < words.len() { words[i] } else { 0 }
-}
-
-// The word at place `i` of two parts one behind the other, 0 behind them.
-fn word_in(front: &[u32], back: &[u32], i: usize) -> u32
-    ensures { result ≡ get_or (front.now ++ back.now) i 0 }
-{
-    if i < front.len() {
-        front[i]
-    } else {
-        word_at(back, i - front.len())
-    }
-}
-
-// A store of two parts one behind the other, zero behind them.
-fn packed(front: &[u32], back: &[u32]) -> [u32; SLOTS]
-    ensures { result ≡ pad slots (front.now ++ back.now) }
-{
-    let mut store: [u32; SLOTS] = [0; SLOTS];
-    let mut i: usize = 0;
-    while i < SLOTS {
-        store[i] = word_in(front, back, i);
-        i += 1;
-    }
-    store
-}
-
-// A message of these words, zero behind them.
-fn message_of(words: &[u32]) -> [u32; MESSAGE_WORDS]
-    ensures { result ≡ pad message_words words.now }
-{
-    let mut message: [u32; MESSAGE_WORDS] = [0; MESSAGE_WORDS];
-    let mut i: usize = 0;
-    while i < MESSAGE_WORDS {
-        message[i] = word_at(words, i);
-        i += 1;
-    }
-    message
 }

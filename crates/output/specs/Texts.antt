@@ -28,6 +28,15 @@ pub record Put (before : List ℕ) (at : ℕ) (text after : List ℕ) (r : ℕ) 
   pub bytes : after ≡ text_in before at text
   pub within : r ≤ length after
 
+-- a buffer: its bytes, and the position up to which they are text that is not written out yet
+pub record Buffer : Type 0 where
+  pub bytes : List ℕ
+  pub at : ℕ
+
+-- a text went into a buffer, by its bytes and position before and after
+abbrev pub Puts : Buffer → List ℕ → Buffer → Type 0
+Puts before text after = Put before.bytes before.at text after.bytes after.at
+
 -- A text that goes in behind another is one text with it. A text that finds room stands behind the text before it, and every other byte is
 -- as before. Proved as `texts` of proofs/Laws/Texts.antt.
 pub record TextClaims : Type 0 where

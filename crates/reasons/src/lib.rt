@@ -40,27 +40,19 @@ impl Counts {
         match reason {
             Reason::Served => Counts {
                 served: n,
-                timeouts: 0,
-                aborted: 0,
-                deleted: 0,
+                ..NO_WAITS
             },
             Reason::TimedOut => Counts {
-                served: 0,
                 timeouts: n,
-                aborted: 0,
-                deleted: 0,
+                ..NO_WAITS
             },
             Reason::Aborted => Counts {
-                served: 0,
-                timeouts: 0,
                 aborted: n,
-                deleted: 0,
+                ..NO_WAITS
             },
             Reason::Deleted => Counts {
-                served: 0,
-                timeouts: 0,
-                aborted: 0,
                 deleted: n,
+                ..NO_WAITS
             },
         }
     }

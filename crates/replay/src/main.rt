@@ -3,92 +3,68 @@
 #![tactic(auto)]
 
 ghost use Rattle.std.specs.Prelude.{◌≡◌};
-ghost use Rattle.kernel.specs.General.{call};
 ghost use Rattle.tape.specs.Tapes.{records_of};
-ghost use Rattle.output.specs.Texts.{Put};
-ghost use Rattle.replay.specs.Replay.{record_text, count_text, calls_text, replay_text};
+ghost use Rattle.output.specs.Texts.{Puts};
+ghost use Rattle.replay.specs.Replay.{answer_text, count_text, calls_text, replay_text};
 
 use calls::call::Request;
-use kernel::{Answer, Kernel};
-use numbers::ThreadId;
-use output::{flush, put_byte, put_decimal};
-use text::input::{MOST_BYTES, open};
+use kernel::Answer;
+use output::Writer;
+use text::input::print_tape;
+use text::records::{Listing, put_records};
 use text::{put_field, put_refused, put_thread};
 
-// The bytes of text that are gathered for a write.
-const BUFFER_BYTES: usize = 65536;
+// The listing that this program prints.
+struct Replay;
 
-// One call of the tape. The message words are those that a send takes its message from.
-fn carried_out(k: Kernel, r: Request, words: &[u32]) -> Answer
-    ensures { result ≡ call k r words.now }
-{
-    k.call(r, words)
+impl<P: Print, const N: usize> Listing<P, N> for Replay {
+    ghost listed_text = { λ i r a. answer_text a };
+
+    fn put_record(w: &mut Writer<P, N>, _: u32, _: &Request, a: &Answer) {
+        put_answer(w, a);
+    }
 }
 
-fn put_answer(
-    out: &impl Print,
-    buf: &mut [u8],
-    at: usize,
-    status: u32,
-    next: ThreadId,
-    ended: u32,
-) -> usize
-    ensures { Put buf.old at (record_text status next.0 ended) buf.new result }
+fn put_answer<P: Print, const N: usize>(w: &mut Writer<P, N>, a: &Answer)
+    ensures { Puts w.old (answer_text a.now) w.new }
 {
-    let at = put_decimal(out, buf, at, status as u64);
-    let at = put_byte(out, buf, at, b' ');
-    let at = put_thread(out, buf, at, next);
-    let at = put_field(out, buf, at, b" ", ended);
-    put_byte(out, buf, at, b'\n')
+    w.put_decimal(u64::from(a.status));
+    w.put_byte(b' ');
+    put_thread(w, a.next);
+    put_field(w, b" ", a.ended);
+    w.put_byte(b'\n');
 }
 
-fn put_count(out: &impl Print, buf: &mut [u8], at: usize, label: &[u8], n: u32) -> usize
-    ensures { Put buf.old at (count_text label.now n) buf.new result }
+fn put_count<P: Print, const N: usize>(w: &mut Writer<P, N>, label: &[u8], n: u32)
+    ensures { Puts w.old (count_text label.now n) w.new }
 {
-    let at = put_field(out, buf, at, label, n);
-    put_byte(out, buf, at, b'\n')
+    put_field(w, label, n);
+    w.put_byte(b'\n');
 }
 
 // Every call of a tape that is not refused, on the message words that are lent.
-fn put_calls(out: &impl Print, buf: &mut [u8], at: usize, bytes: &[u8], words: &[u32]) -> usize
-    ensures { Put buf.old at (calls_text words.now (records_of bytes.now)) buf.new result }
+fn put_calls<P: Print, const N: usize>(w: &mut Writer<P, N>, bytes: &[u8], messages: &[u32])
+    ensures { Puts w.old (calls_text messages.now (records_of bytes.now)) w.new }
 {
     let n = tape::count(bytes);
-    let mut k = Kernel::start();
-    let mut to = put_count(out, buf, at, b"calls ", n);
-    let mut i: u32 = 0;
-    while i < n {
-        let answer = carried_out(k, tape::record_at(bytes, i as usize), words);
-        k = answer.kernel;
-        to = put_answer(out, buf, to, answer.status, answer.next, answer.ended);
-        i += 1;
-    }
-    put_count(out, buf, to, b"done ", i)
+    put_count(w, b"calls ", n);
+    put_records::<Replay, P, N>(w, bytes, messages);
+    put_count(w, b"done ", n);
 }
 
-// What is printed of a tape.
-fn put_run(out: &impl Print, buf: &mut [u8], bytes: &[u8]) -> usize
-    ensures { Put buf.old 0 (replay_text bytes.now) buf.new result }
+// What is printed of a tape. It stands in `replay` and `inspect`, since one function of both would need a trait more for these lines.
+fn put_run<P: Print, const N: usize>(w: &mut Writer<P, N>, bytes: &[u8])
+    ensures { Puts w.old (replay_text bytes.now) w.new }
 {
     if tape::is_refused(bytes) {
-        return put_refused(out, buf, 0);
+        return put_refused(w);
     }
-    let words = tape::messages(bytes);
+    let messages = tape::messages(bytes);
     let m = tape::message_count(bytes) as usize;
-    put_calls(out, buf, 0, bytes, &words[..m])
-}
-
-fn replay(out: &impl Print, bytes: &[u8]) {
-    let mut buf = [0u8; BUFFER_BYTES];
-    let at = put_run(out, &mut buf, bytes);
-    flush(out, &mut buf, at);
+    put_calls(w, bytes, &messages[..m]);
 }
 
 fn main(rt: HostRuntime) {
-    let Some(mut source) = open(&rt) else {
-        return;
-    };
-    let mut bytes = [0u8; MOST_BYTES];
-    let n = source.read_full(&mut bytes);
-    replay(&rt, &bytes[..n]);
+    // A closure, since `put_run` itself would be taken at one lifetime only.
+    print_tape(&rt, |w, bytes| put_run(w, bytes));
 }

@@ -1,52 +1,52 @@
 // The choice of the next thread.
-ghost use Rattle.std.specs.Prelude.{◌≡◌, ◌&&◌, ◌||◌, not, ◌≤◌, ltb};
+ghost use Rattle.std.specs.Prelude.{◌≡◌, Bool, ◌&&◌, ◌||◌, not, ◌≤◌, ltb};
 ghost use Rattle.numbers.specs.Numbers.{nobody};
 ghost use Rattle.scheduler.specs.Choice.{best_among, best_ready, rescheduled, relinquished};
-ghost use Rattle.scheduler.specs.Loops.{wantedb, considered_of};
+ghost use Rattle.scheduler.specs.declared.thread.Thread.{Thread};
+ghost use Rattle.scheduler.specs.Loops.{considered_of, Computes};
 
-use super::Scheduler;
-use super::thread::{Among, Thread};
+use super::thread::Thread;
+use super::{Scheduler, record_of};
 use lines::{Best, LARGEST_KEY, better};
 use numbers::{NOBODY, THREADS, ThreadId};
 
+// What a pass over nobody has found.
+const NOBODY_YET: Best = Best {
+    id: ThreadId(NOBODY),
+    key: LARGEST_KEY,
+};
+
 // Of thread `x` and the best of those behind it the better; a thread that is not wanted does not count. A priority is
 // a byte, so nobody's key is never the smaller.
-fn considered(among: Among, x: ThreadId, th: Thread, b: Best) -> Best
-    ensures best { result ≡ considered_of among x.0 th b }
-    ensures in_byte { th.priority ≤ 255 }
+fn considered(wanted: bool, x: Best, b: Best) -> Best
+    ensures best { result ≡ considered_of wanted x b }
+    ensures in_byte { x.key ≤ 255 }
 {
-    if th.is_wanted(among) {
-        better(x, th.priority, b)
-    } else {
-        b
-    }
+    if wanted { better(x.id, x.key, b) } else { b }
 }
 
-// Whether the best ready thread `h` of a priority overtakes thread `t`: there is one, and `t` is nobody or its threshold lets it pass.
-fn overtakes(h: ThreadId, priority: u8, t: ThreadId, threshold: u8) -> bool
-    ensures { result ≡ (ltb h.0 nobody && (not (ltb t.0 nobody) || ltb priority threshold)) }
+// Whether the best ready thread overtakes thread `t`: there is one, and `t` is nobody or its threshold lets it pass.
+fn overtakes(best: Best, t: ThreadId, threshold: u8) -> bool
+    ensures { result ≡ (ltb best.id.0 nobody && (not (ltb t.0 nobody) || ltb best.key threshold)) }
 {
-    (h.0 < NOBODY) & (!(t.0 < NOBODY) | (priority < threshold))
+    (best.id.0 < NOBODY) & (!(t.0 < NOBODY) | (best.key < threshold))
 }
 
 impl Scheduler {
-    // The first of the best priority among the ready threads, the marked ones or those at a place.
-    pub(crate) fn best(self, among: Among) -> ThreadId
-        ensures { result.0 ≡ best_among (wantedb among) self }
+    // The first of the best priority among those whose records are wanted.
+    pub(crate) fn best<F: Fn(Thread) -> bool>(self, wanted: F) -> ThreadId
+        requires { F.IsAlwaysCallable wanted }
+        ensures { (f : Thread → Bool) → Computes (F.post wanted) self f → result.0 ≡ best_among f self }
     {
         let o = self.order;
-        let ids = o.ids;
-        let mut i = o.size() as usize;
-        let mut b = Best {
-            id: ThreadId(NOBODY),
-            key: LARGEST_KEY,
-        };
-        while 0 < i {
-            i -= 1;
-            let x = ThreadId(ids[i]);
-            let t = x.0 as usize;
-            if t < THREADS {
-                b = considered(among, x, self.threads[t], b);
+        let mut b = NOBODY_YET;
+        for x in o.as_slice().iter().rev() {
+            if let Some(th) = self.threads.get(*x as usize) {
+                let x = Best {
+                    id: ThreadId(*x),
+                    key: th.priority,
+                };
+                b = considered(wanted(*th), x, b);
             }
         }
         b.id
@@ -56,7 +56,7 @@ impl Scheduler {
     pub fn best_ready(self) -> ThreadId
         ensures { result.0 ≡ best_ready self }
     {
-        self.best(Among::Ready)
+        self.best(|th| th.is_ready())
     }
 
     // The choice after a call, made where the tables lie: one pass finds the best ready thread and the best marked one. A runner that stays,
@@ -65,57 +65,33 @@ impl Scheduler {
         ensures { result ≡ rescheduled self relinquished }
     {
         let o = self.order;
-        let ids = o.ids;
-        let mut i = o.size() as usize;
-        let mut ready = Best {
-            id: ThreadId(NOBODY),
-            key: LARGEST_KEY,
-        };
-        let mut marked = Best {
-            id: ThreadId(NOBODY),
-            key: LARGEST_KEY,
-        };
-        while 0 < i {
-            i -= 1;
-            let x = ThreadId(ids[i]);
-            let t = x.0 as usize;
-            if t < THREADS {
-                let th = self.threads[t];
-                ready = considered(Among::Ready, x, th, ready);
-                marked = considered(Among::Marked, x, th, marked);
+        let mut ready = NOBODY_YET;
+        let mut marked = NOBODY_YET;
+        for x in o.as_slice().iter().rev() {
+            if let Some(th) = self.threads.get(*x as usize) {
+                let x = Best {
+                    id: ThreadId(*x),
+                    key: th.priority,
+                };
+                let is_ready = th.is_ready();
+                ready = considered(is_ready, x, ready);
+                marked = considered(is_ready & th.marked, x, marked);
             }
         }
         let r = self.running;
-        let at = r.0 as usize;
-        let mut runner = Thread::uncreated();
-        if at < THREADS {
-            runner = self.threads[at];
-        }
+        let runner = record_of(&self.threads, r);
         let stays = runner.is_ready() & !relinquished;
-        let mut next = marked.id;
-        if stays {
-            next = r;
-        }
-        let k = next.0 as usize;
-        let mut other = Thread::uncreated();
-        if k < THREADS {
-            other = self.threads[k];
-        }
-        let h = ready.id;
-        if overtakes(h, ready.key, next, other.threshold) {
+        let mut next = if stays { r } else { marked.id };
+        let other = record_of(&self.threads, next);
+        if overtakes(ready, next, other.threshold) {
             if stays {
-                if at < THREADS {
-                    runner.marked = runner.threshold < runner.priority;
-                    self.threads[at] = runner;
-                }
+                self.threads[r.0 as usize].marked = runner.threshold < runner.priority;
             }
-            next = h;
+            next = ready.id;
         }
-        let n = next.0 as usize;
-        if n < THREADS {
-            let mut th = self.threads[n];
-            th.marked = false;
-            self.threads[n] = th;
+        let i = next.0 as usize;
+        if i < THREADS {
+            self.threads[i].marked = false;
         }
         self.running = next;
         self

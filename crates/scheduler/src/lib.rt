@@ -5,8 +5,9 @@
 
 #![tactic(auto)]
 
-ghost use Rattle.std.specs.Prelude.{◌≡◌};
+ghost use Rattle.std.specs.Prelude.{◌≡◌, get_or};
 ghost use Rattle.lines.specs.Lines.{members, line_of};
+ghost use Rattle.scheduler.specs.Threads.{uncreated};
 ghost use Rattle.scheduler.specs.Orders.{thread_at, line_at, first_at, with_thread, idle};
 
 use lines::Line;
@@ -19,11 +20,22 @@ pub mod moves;
 pub mod sound;
 pub mod thread;
 
+// `running` is a number, 32 for nobody, since damaged tables hold any byte.
 #[derive(Clone, Copy)]
 pub struct Scheduler {
     pub running: ThreadId,
     pub order: Line,
     pub threads: [Thread; THREADS],
+}
+
+// The record of thread `t` in a table.
+fn record_of(threads: &[Thread; THREADS], t: ThreadId) -> Thread
+    ensures { result ≡ get_or threads.now t.0 uncreated }
+{
+    threads
+        .get(t.0 as usize)
+        .copied()
+        .unwrap_or(Thread::uncreated())
 }
 
 impl Scheduler {
@@ -42,25 +54,18 @@ impl Scheduler {
     pub fn thread_at(self, t: ThreadId) -> Thread
         ensures { result ≡ thread_at self t.0 }
     {
-        let i = t.0 as usize;
-        if i < THREADS {
-            self.threads[i]
-        } else {
-            Thread::uncreated()
-        }
+        record_of(&self.threads, t)
     }
 
     // The same with another record for thread `t`, which stands where it stood.
-    pub fn with_thread(self, t: ThreadId, th: Thread) -> Scheduler
+    pub fn with_thread(mut self, t: ThreadId, th: Thread) -> Scheduler
         ensures { result ≡ with_thread self t.0 th }
     {
         let i = t.0 as usize;
-        if THREADS <= i {
-            return self;
+        if i < THREADS {
+            self.threads[i] = th;
         }
-        let mut s = self;
-        s.threads[i] = th;
-        s
+        self
     }
 
     // Who is first at a place.
@@ -68,20 +73,12 @@ impl Scheduler {
         ensures { result.0 ≡ first_at self p }
     {
         let o = self.order;
-        let ids = o.ids;
-        let n = o.size() as usize;
-        let mut i: usize = 0;
-        while i < n {
-            let x = ThreadId(ids[i]);
-            let t = x.0 as usize;
-            i += 1;
-            if t < THREADS {
-                if self.threads[t].is_at(p) {
-                    return x;
-                }
-            }
-        }
-        ThreadId(NOBODY)
+        let found = o
+            .as_slice()
+            .iter()
+            .copied()
+            .find(|x| record_of(&self.threads, ThreadId(*x)).is_at(p));
+        ThreadId(found.unwrap_or(NOBODY))
     }
 
     // The order of a place, whole: it never has more than 32 members.
@@ -89,23 +86,12 @@ impl Scheduler {
         ensures { (result ≡ line_of (line_at self p)) × (members result ≡ line_at self p) }
     {
         let o = self.order;
-        let ids = o.ids;
-        let n = o.size() as usize;
-        let mut out: [u8; THREADS] = [0; THREADS];
-        let mut len: u8 = 0;
-        let mut i: usize = 0;
-        while i < n {
-            let x = ThreadId(ids[i]);
-            let t = x.0 as usize;
-            i += 1;
-            if t < THREADS {
-                if self.threads[t].is_at(p) {
-                    let k = len as usize;
-                    out[k] = x.0;
-                    len += 1;
-                }
+        let mut l = Line::empty();
+        for x in o.as_slice() {
+            if record_of(&self.threads, ThreadId(*x)).is_at(p) {
+                l.push(ThreadId(*x));
             }
         }
-        Line { ids: out, len }
+        l
     }
 }

@@ -3,26 +3,34 @@ ghost use Rattle.std.specs.Prelude.{◌≡◌};
 ghost use Rattle.scheduler.specs.Orders.{moved, moved_front, joined, woken, prioritised_at};
 
 use super::Scheduler;
-use super::thread::{Among, Place, Thread};
+use super::thread::{Place, Thread};
 use numbers::{THREADS, ThreadId};
 
 impl Scheduler {
-    // Thread `t` with another record, at the end of its order, or in none.
-    pub fn moved(mut self, t: ThreadId, th: Thread) -> Scheduler
-        ensures { result ≡ moved self t.0 th }
+    // Thread `t` gets another record, and joins the front of its order or the end, or none. The record is stored where the tables lie: through
+    // `with_thread`, which takes them by value, a move takes a third more instructions.
+    fn join(&mut self, front: bool, t: ThreadId, th: Thread)
+        ensures { self.new ≡ joined self.old front t.0 th }
     {
         let o = self.order;
         let i = t.0 as usize;
         if i < THREADS {
             self.threads[i] = th;
         }
-        if th.is_standing() {
-            let l = o.joined_end(t);
-            self.order = l;
+        self.order = if !th.is_standing() {
+            o.without(t)
+        } else if front {
+            o.joined_front(t)
         } else {
-            let l = o.without(t);
-            self.order = l;
-        }
+            o.joined_end(t)
+        };
+    }
+
+    // Thread `t` with another record, at the end of its order, or in none.
+    pub fn moved(mut self, t: ThreadId, th: Thread) -> Scheduler
+        ensures { result ≡ moved self t.0 th }
+    {
+        self.join(false, t, th);
         self
     }
 
@@ -30,30 +38,16 @@ impl Scheduler {
     pub fn moved_front(mut self, t: ThreadId, th: Thread) -> Scheduler
         ensures { result ≡ moved_front self t.0 th }
     {
-        let o = self.order;
-        let i = t.0 as usize;
-        if i < THREADS {
-            self.threads[i] = th;
-        }
-        if th.is_standing() {
-            let l = o.joined_front(t);
-            self.order = l;
-        } else {
-            let l = o.without(t);
-            self.order = l;
-        }
+        self.join(true, t, th);
         self
     }
 
-    // Thread `t` with another record, at the front of its order or at the end.
-    pub fn joined(self, front: bool, t: ThreadId, th: Thread) -> Scheduler
+    // Thread `t` with another record, at the front of its order or at the end, or in none.
+    pub fn joined(mut self, front: bool, t: ThreadId, th: Thread) -> Scheduler
         ensures { result ≡ joined self front t.0 th }
     {
-        if front {
-            self.moved_front(t, th)
-        } else {
-            self.moved(t, th)
-        }
+        self.join(front, t, th);
+        self
     }
 
     // The wait or sleep of thread `t` ends.
@@ -65,14 +59,11 @@ impl Scheduler {
     }
 
     // The first of the best priority at a place moved to its front, and nothing else.
-    pub fn prioritised(self, p: Place) -> Scheduler
+    pub fn prioritised(mut self, p: Place) -> Scheduler
         ensures { result ≡ prioritised_at self p }
     {
-        let b = self.best(Among::At(p));
-        let o = self.order;
-        let l = o.fronted(b);
-        let mut s = self;
-        s.order = l;
-        s
+        let b = self.best(|th| th.is_at(p));
+        self.order = self.order.fronted(b);
+        self
     }
 }

@@ -16,12 +16,10 @@ impl Scheduler {
         let runner = self.thread_at(r);
         let limit = runner.threshold;
         let counts = o.tally();
-        let mut t: usize = 0;
-        while t < THREADS {
-            if !self.threads[t].is_placed(counts[t], limit) {
+        for (t, th) in self.threads.iter().enumerate() {
+            if !th.is_placed(counts[t], limit) {
                 return false;
             }
-            t += 1;
         }
         let lined = o.is_clean() & (counts[THREADS] == 0);
         if r.0 < NOBODY {

@@ -1,12 +1,12 @@
 // What scheduling needs of a thread, and the place where a thread stands.
-ghost use Rattle.std.specs.Prelude.{◌≡◌, ◌&&◌, leb};
+ghost use Rattle.std.specs.Prelude.{◌≡◌, false, ◌&&◌, leb};
 ghost use Rattle.lines.specs.Logic.{implies};
 ghost use Rattle.scheduler.specs.Threads.{asleep, on_queue, on_semaphore, on_flags, on_block, uncreated, readyb, waitsb, pausedb, restsb, standsb, number_of, placedb, ready_at, waiters_at, in_state, at_rest, awake, with_suspension, created};
-ghost use Rattle.scheduler.specs.Loops.{wantedb};
 ghost use Rattle.scheduler.specs.Sound.{limitsb, zerob, fitb, countedb};
 
 use numbers::{GroupId, PRIORITIES, PoolId, QueueId, SemaphoreId};
 
+// The states are numbers, since damaged tables hold any byte: the soundness test answers for those past the last too.
 pub const READY: u8 = 0;
 
 pub const COMPLETED: u8 = 1;
@@ -26,8 +26,9 @@ pub const ON_FLAGS: u8 = 7;
 pub const ON_BLOCK: u8 = 8;
 
 // A thread's record. `suspending` says that a suspension is held until the wait ends; `ticks` are those left of a
-// wait or sleep, the largest number for one without end.
-#[derive(Clone, Copy)]
+// wait or sleep, the largest number for one without end. `created` stands beside the fields, and no Option around them: damaged tables may hold an
+// uncreated record that is not zero, which `fitb` refuses.
+#[derive(Clone, Copy, PartialEq, Eq)]
 pub struct Thread {
     pub created: bool,
     pub state: u8,
@@ -39,21 +40,15 @@ pub struct Thread {
     pub ticks: u32,
 }
 
-// Where threads stand: a state, and the priority of the ready threads or the object of the waiters.
+// Where threads stand: a state, and the priority of the ready threads or the object of the waiters. Two numbers, since they are compared
+// with those of a record, which may be any; an enum would be taken apart into them at each test.
 #[derive(Clone, Copy)]
 pub struct Place {
     state: u8,
     number: u8,
 }
 
-// Those among whom the best is looked for: the ready threads, the marked ones, those at a place.
-#[derive(Clone, Copy)]
-pub enum Among {
-    Ready,
-    Marked,
-    At(Place),
-}
-
+// One constructor for each type of number: a trait for them would have an impl as long as each of these.
 impl Place {
     // Where the ready threads of a priority stand.
     pub fn ready(priority: u8) -> Place
@@ -107,7 +102,7 @@ impl Place {
 }
 
 impl Thread {
-    // The record of a thread that is not created, and of one past the table.
+    // The record of a thread that is not created, and of one past the table: all zero.
     pub fn uncreated() -> Thread
         ensures { result ≡ uncreated }
     {
@@ -132,10 +127,7 @@ impl Thread {
             state,
             priority,
             threshold,
-            marked: false,
-            suspending: false,
-            object: 0,
-            ticks: 0,
+            ..Thread::uncreated()
         }
     }
 
@@ -208,14 +200,14 @@ impl Thread {
     pub fn is_paused(self) -> bool
         ensures { result ≡ pausedb self }
     {
-        (self.created & (ASLEEP < self.state)) | (self.created & (self.state == ASLEEP))
+        self.is_waiting() | (self.created & (self.state == ASLEEP))
     }
 
     // Whether the thread stands in an order.
     pub fn is_standing(self) -> bool
         ensures { result ≡ standsb self }
     {
-        (self.created & (self.state == READY)) | (self.created & (ASLEEP < self.state))
+        self.is_ready() | self.is_waiting()
     }
 
     // The number beside the state of the place where the thread stands.
@@ -236,28 +228,12 @@ impl Thread {
         self.is_standing() & (self.state == p.state) & (self.number() == p.number)
     }
 
-    // Whether the thread is one of those among whom the best is looked for.
-    pub fn is_wanted(self, among: Among) -> bool
-        ensures { result ≡ wantedb among self }
-    {
-        match among {
-            Among::Ready => self.is_ready(),
-            Among::Marked => self.is_ready() & self.marked,
-            Among::At(p) => self.is_at(p),
-        }
-    }
-
-    // Whether an uncreated record is zero.
+    // Whether the record of a thread that is not created is zero.
     fn is_zero(self) -> bool
+        requires { self.created ≡ false }
         ensures { result ≡ zerob self }
     {
-        (self.state == 0)
-            & (self.priority == 0)
-            & (self.threshold == 0)
-            & !self.marked
-            & !self.suspending
-            & (self.object == 0)
-            & (self.ticks == 0)
+        self == Thread::uncreated()
     }
 
     // Whether state, priority and threshold are within bounds.

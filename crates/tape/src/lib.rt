@@ -2,7 +2,7 @@
 
 #![tactic(auto)]
 
-ghost use Rattle.std.specs.Prelude.{◌≡◌, min, length, get_or};
+ghost use Rattle.std.specs.Prelude.{if◌then◌else◌, ◌≡◌, min, length, get_or};
 ghost use Rattle.lines.specs.Lines.{pad};
 ghost use Rattle.tape.specs.Tapes.{record_bytes, word_at, records_end, refusedb, count_of, message_count_of, record_from, record_at, most_message_words, messages_of};
 
@@ -24,7 +24,7 @@ pub const MOST_MESSAGE_WORDS: usize = 4000;
 fn byte(bytes: &[u8], at: usize) -> u8
     ensures { result ≡ get_or bytes.now at 0 }
 {
-    if at < bytes.len() { bytes[at] } else { 0 }
+    bytes.get(at).copied().unwrap_or(0)
 }
 
 // The word that starts at byte `at`. The sums of `at` stay inside since the slice is longer than `at`.
@@ -44,6 +44,7 @@ pub fn word(bytes: &[u8], at: usize) -> u32
 }
 
 // Where the bytes behind n records start.
+#[tactic(auto, unfolding(crate::specs::Tapes::records_end))]
 fn records_end(n: u32) -> usize
     ensures { result ≡ records_end n }
 {
@@ -51,6 +52,7 @@ fn records_end(n: u32) -> usize
 }
 
 // Whether the tape is refused with 0x103. The sums are of 64 bits and the counts of 32, so none wraps.
+#[tactic(auto, unfolding(crate::specs::Tapes::refusedb, crate::specs::Tapes::tape_end, crate::specs::Tapes::records_end))]
 pub fn is_refused(bytes: &[u8]) -> bool
     ensures { result ≡ refusedb bytes.now }
 {
@@ -67,29 +69,42 @@ pub fn is_refused(bytes: &[u8]) -> bool
         | (bytes.len() != end + WORD_BYTES * m)
 }
 
+// The word of the header at `at`, 0 in a refused tape.
+fn header_word(bytes: &[u8], at: usize) -> u32
+    ensures { result ≡ (if refusedb bytes.now then 0 else word_at bytes.now at) }
+{
+    if is_refused(bytes) {
+        0
+    } else {
+        word(bytes, at)
+    }
+}
+
 // How many records are to be carried out, 0 for a refused tape.
+#[tactic(auto, unfolding(crate::specs::Tapes::count_of))]
 pub fn count(bytes: &[u8]) -> u32
     ensures { result ≡ count_of bytes.now }
 {
-    if is_refused(bytes) { 0 } else { word(bytes, 0) }
+    header_word(bytes, 0)
 }
 
 // How many records a run carries out that is given this most number of them.
 pub fn wanted(bytes: &[u8], most: u32) -> u32
     ensures { result ≡ min most (count_of bytes.now) }
 {
-    let n = count(bytes);
-    if most < n { most } else { n }
+    most.min(count(bytes))
 }
 
 // How many message words there are, 0 in a refused tape.
+#[tactic(auto, unfolding(crate::specs::Tapes::message_count_of))]
 pub fn message_count(bytes: &[u8]) -> u32
     ensures { result ≡ message_count_of bytes.now }
 {
-    if is_refused(bytes) { 0 } else { word(bytes, 8) }
+    header_word(bytes, 8)
 }
 
 // The request that the bytes of a record spell.
+#[tactic(auto, unfolding(crate::specs::Tapes::record_from, crate::specs::Tapes::word_at))]
 fn record_of(b: &[u8]) -> Request
     requires { length b.now ≡ record_bytes }
     ensures { result ≡ record_from b.now 0 }
@@ -105,6 +120,7 @@ fn record_of(b: &[u8]) -> Request
 }
 
 // The request of record i, from 0; a request of zeros past the most that a tape can have. A record that the tape's end cuts off is read byte by byte.
+#[tactic(auto, unfolding(crate::specs::Tapes::records_end))]
 pub fn record_at(bytes: &[u8], i: usize) -> Request
     ensures { result ≡ record_at bytes.now i }
 {
@@ -135,6 +151,7 @@ pub fn record_at(bytes: &[u8], i: usize) -> Request
 }
 
 // The message words at the front, zeros behind them. `message_count` says how many there are.
+#[tactic(auto, unfolding(crate::specs::Tapes::records_end))]
 pub fn messages(bytes: &[u8]) -> [u32; 4000]
     ensures { result ≡ pad most_message_words (messages_of bytes.now) }
 {
@@ -142,10 +159,9 @@ pub fn messages(bytes: &[u8]) -> [u32; 4000]
     let m = message_count(bytes) as usize;
     let start = records_end(n);
     let mut words: [u32; 4000] = [0; 4000];
-    let mut i: usize = 0;
-    while i < m {
+    // By index: over `words[..m].iter_mut()` the proof did not close, since all 4,000 words are written out in it.
+    for i in 0..m {
         words[i] = word(bytes, start + WORD_BYTES * i);
-        i += 1;
     }
     words
 }

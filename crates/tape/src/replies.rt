@@ -18,6 +18,7 @@ pub struct Reply {
 }
 
 // The reply to a refused call, with the thread that runs next.
+#[tactic(auto, unfolding(crate::specs::Replies::refusal))]
 pub fn refusal(status: u32, next: ThreadId) -> Reply
     ensures { result ≡ refusal status next.0 }
 {
@@ -44,14 +45,10 @@ fn reply_words(r: Reply) -> [u32; 19]
 pub fn put_reply(replies: &mut [u32], i: u32, r: Reply)
     ensures { replies.new ≡ replied replies.old i r }
 {
-    let words = reply_words(r);
+    // A test of the length: with `get_mut` of the part the proof did not close.
     let at = REPLY_WORDS * (i as usize);
     if at + REPLY_WORDS <= replies.len() {
-        let mut j: usize = 0;
-        while j < REPLY_WORDS {
-            replies[at + j] = words[j];
-            j += 1;
-        }
+        replies[at..at + REPLY_WORDS].copy_from_slice(&reply_words(r));
     }
 }
 
@@ -59,9 +56,7 @@ pub fn put_reply(replies: &mut [u32], i: u32, r: Reply)
 pub fn put_replies(replies: &mut [u32], n: u32, r: Reply)
     ensures { replies.new ≡ replied_each replies.old n r }
 {
-    let mut i: u32 = 0;
-    while i < n {
+    for i in 0..n {
         put_reply(replies, i, r);
-        i += 1;
     }
 }

@@ -1,13 +1,14 @@
-// Where a program reads its tape from.
+// Where a program reads its tape from, and how it prints what it says of it.
 ghost use Rattle.std.specs.Prelude.{◌≤◌, length};
 
+use output::{BUFFER_BYTES, Writer};
 use std::env::FillError;
 use std::io::{Error, ErrorKind, Read};
 use std::rt::{Env, Files};
 use std::{fs, str};
 
 // The most bytes that a program reads of its tape. A tape that is not refused has at most 65,168.
-pub const MOST_BYTES: usize = 65536;
+const MOST_BYTES: usize = 65536;
 
 // The most bytes of a path, and the system's error for a longer one.
 const MOST_PATH_BYTES: usize = 4096;
@@ -37,6 +38,7 @@ fn read_full<T: Read>(from: &mut T, buf: &mut [u8]) -> usize
     ensures { result ≤ length buf.new }
 {
     let mut done: usize = 0;
+    // By hand: a read takes any number of bytes, so no iterator gives the places where the next one begins.
     while done < buf.len() {
         let n = from.read(&mut buf[done..]).unwrap_or(0);
         if n == 0 {
@@ -63,6 +65,23 @@ pub fn open<R: Files + Env + Input + Eprint + Alloc>(rt: &R) -> Option<Source<R:
             None
         }
     }
+}
+
+// Reads the tape that a program is given, and prints what `put` puts into a buffer of it.
+pub fn print_tape<
+    R: Files + Env + Input + Print + Eprint + Alloc,
+    F: FnOnce(&mut Writer<&R, BUFFER_BYTES>, &[u8]),
+>(rt: &R, put: F)
+    requires { F.IsAlwaysCallable put }
+{
+    let Some(mut source) = open(rt) else {
+        return;
+    };
+    let mut bytes = [0u8; MOST_BYTES];
+    let n = source.read_full(&mut bytes);
+    let mut w = Writer::new(rt);
+    put(&mut w, &bytes[..n]);
+    w.flush();
 }
 
 // A path is UTF-8, since std opens no other.
@@ -97,10 +116,8 @@ fn open_readable<R: Files>(rt: &R, path: &str) -> std::io::Result<R::File> {
 
 // The system's words, without the error's number that std puts behind them.
 fn words_of(said: &str) -> &str {
-    match said.split_once(" (os error ") {
-        Some((words, _)) => words,
-        None => said,
-    }
+    said.split_once(" (os error ")
+        .map_or(said, |(words, _)| words)
 }
 
 // Says on standard error what failed and why.

@@ -1,111 +1,100 @@
-// Pieces of text that the programs print, put into a buffer as in `output`: the position goes in and comes back.
+// Pieces of text that the programs print, put into a buffer of `output`.
 
 #![tactic(auto)]
 
-ghost use Rattle.std.specs.Prelude.{◌≡◌};
+ghost use Rattle.std.specs.Prelude.{◌≡◌, ℕ, ◌++◌};
 ghost use Rattle.lines.specs.Lines.{members};
-ghost use Rattle.output.specs.Texts.{Put};
-ghost use Rattle.text.specs.Texts.{field_text, thread_text, separator_text, separated, line_text, refused_text};
+ghost use Rattle.output.specs.Texts.{Puts, decimal_of};
+ghost use Rattle.text.specs.Texts.{field_text, thread_text, each_text, separator_text, line_text, refused_text};
 
 use calls::status::TAPE_REFUSED;
 use lines::Line;
 use numbers::{NOBODY, ThreadId};
-use output::{put_byte, put_decimal, put_nothing, put_text};
+use output::Writer;
 
 pub mod input;
 pub mod object_tables;
+pub mod records;
 pub mod thread_table;
 
 // A label and a number.
-pub fn put_field(out: &impl Print, buf: &mut [u8], at: usize, label: &[u8], n: u32) -> usize
-    ensures { Put buf.old at (field_text label.now n) buf.new result }
+pub fn put_field<P: Print, const N: usize>(w: &mut Writer<P, N>, label: &[u8], n: u32)
+    ensures { Puts w.old (field_text label.now n) w.new }
 {
-    let at = put_text(out, buf, at, label);
-    put_decimal(out, buf, at, n as u64)
+    w.put_text(label);
+    w.put_decimal(u64::from(n));
 }
 
 // A thread's number, `-` for nobody.
-pub fn put_thread(out: &impl Print, buf: &mut [u8], at: usize, t: ThreadId) -> usize
-    ensures { Put buf.old at (thread_text t.0) buf.new result }
+pub fn put_thread<P: Print, const N: usize>(w: &mut Writer<P, N>, t: ThreadId)
+    ensures { Puts w.old (thread_text t.0) w.new }
 {
     if t.0 < NOBODY {
-        return put_decimal(out, buf, at, t.0 as u64);
+        w.put_decimal(u64::from(t.0));
+    } else {
+        w.put_byte(b'-');
     }
-    put_byte(out, buf, at, b'-')
 }
 
 // A separator, but none before the first of a list.
 #[tactic(auto, unfolding(crate::specs::Texts::separator_text))]
-pub fn put_separator(out: &impl Print, buf: &mut [u8], at: usize, i: usize, separator: u8) -> usize
-    ensures { Put buf.old at (separator_text i separator) buf.new result }
+pub fn put_separator<P: Print, const N: usize>(w: &mut Writer<P, N>, i: usize, separator: u8)
+    ensures { Puts w.old (separator_text i separator) w.new }
 {
     if i == 0 {
-        return put_nothing(buf, at);
+        w.put_nothing();
+    } else {
+        w.put_byte(separator);
     }
-    put_byte(out, buf, at, separator)
 }
 
-// Words with a separator between them.
-pub fn put_words(out: &impl Print, buf: &mut [u8], at: usize, words: &[u32], separator: u8) -> usize
-    ensures { Put buf.old at (separated separator words.now) buf.new result }
-{
-    let mut to = put_nothing(buf, at);
-    let mut i: usize = 0;
-    while i < words.len() {
-        to = put_separator(out, buf, to, i, separator);
-        to = put_decimal(out, buf, to, wide_word(words[i]));
-        i += 1;
-    }
-    to
+// A type of numbers: what its values are as numbers, and that their conversion gives that.
+pub trait Number: Copy + Into<u64> {
+    ghost number: { Self → ℕ };
+
+    ghost converted: { (x : Self) (n : ℕ) → Self.converts x n → n ≡ number x };
 }
 
-// Small numbers with a separator between them.
-pub fn put_numbers(
-    out: &impl Print,
-    buf: &mut [u8],
-    at: usize,
-    numbers: &[u8],
+impl Number for u8 {
+    ghost number = { λ x. x };
+
+    ghost converted = { λ x n e. e };
+}
+
+impl Number for u32 {
+    ghost number = { λ x. x };
+
+    ghost converted = { λ x n e. e };
+}
+
+// Numbers with a separator between them.
+pub fn put_numbers<T: Number, P: Print, const N: usize>(
+    w: &mut Writer<P, N>,
+    numbers: &[T],
     separator: u8,
-) -> usize
-    ensures { Put buf.old at (separated separator numbers.now) buf.new result }
+)
+    ensures { Puts w.old (each_text (λ i x. separator_text i separator ++ decimal_of (T.number x)) 0 numbers.now) w.new }
 {
-    let mut to = put_nothing(buf, at);
-    let mut i: usize = 0;
-    while i < numbers.len() {
-        to = put_separator(out, buf, to, i, separator);
-        to = put_decimal(out, buf, to, wide_number(numbers[i]));
-        i += 1;
+    w.put_nothing();
+    for (i, x) in numbers.iter().enumerate() {
+        put_separator(w, i, separator);
+        w.put_decimal((*x).into());
     }
-    to
-}
-
-fn wide_word(x: u32) -> u64
-    ensures { result ≡ x }
-{
-    x as u64
-}
-
-fn wide_number(x: u8) -> u64
-    ensures { result ≡ x }
-{
-    x as u64
 }
 
 // The threads of a line, and the end of the text line.
-pub fn put_line(out: &impl Print, buf: &mut [u8], at: usize, l: Line) -> usize
-    ensures { Put buf.old at (line_text (members l)) buf.new result }
+pub fn put_line<P: Print, const N: usize>(w: &mut Writer<P, N>, l: &Line)
+    ensures { Puts w.old (line_text (members l.now)) w.new }
 {
-    let ids = l.ids;
-    let n = l.size() as usize;
-    let at = put_text(out, buf, at, b": ");
-    let at = put_numbers(out, buf, at, &ids[..n], b' ');
-    put_byte(out, buf, at, b'\n')
+    w.put_text(b": ");
+    put_numbers(w, l.as_slice(), b' ');
+    w.put_byte(b'\n');
 }
 
 // What is printed of a refused tape.
-pub fn put_refused(out: &impl Print, buf: &mut [u8], at: usize) -> usize
-    ensures { Put buf.old at refused_text buf.new result }
+pub fn put_refused<P: Print, const N: usize>(w: &mut Writer<P, N>)
+    ensures { Puts w.old refused_text w.new }
 {
-    let at = put_field(out, buf, at, b"tape refused ", TAPE_REFUSED);
-    put_byte(out, buf, at, b'\n')
+    put_field(w, b"tape refused ", TAPE_REFUSED);
+    w.put_byte(b'\n');
 }

@@ -1,61 +1,82 @@
 // Objects and the orders of their waiters as text.
-ghost use Rattle.std.specs.Prelude.{◌≡◌, min};
+ghost use Rattle.std.specs.Prelude.{◌≡◌, ◌≤◌, List, ℕ, length};
 ghost use Rattle.lines.specs.Lines.{members};
-ghost use Rattle.output.specs.Texts.{Put};
+ghost use Rattle.scheduler.specs.declared.thread.Place.{Place};
+ghost use Rattle.scheduler.specs.Threads.{on_queue, on_semaphore, on_flags, on_block, waiters_at};
+ghost use Rattle.scheduler.specs.Orders.{line_at};
+ghost use Rattle.output.specs.Texts.{Puts};
+ghost use Rattle.text.specs.Texts.{each_text};
 ghost use Rattle.text.specs.Objects.{semaphore_text, semaphores_text, word_separator, stored_text, queue_sizes_text, queue_text, queues_text, group_text, groups_text, free_text, pool_sizes_text, pool_text, pools_text};
 
-use super::{put_field, put_line, put_numbers, put_separator, wide_word};
+use super::{put_field, put_line, put_numbers, put_separator};
 use blocks::pool::Pool;
 use lines::Line;
 use numbers::{GROUPS, GroupId, POOLS, PoolId, QUEUES, QueueId, SEMAPHORES, SLOTS, SemaphoreId};
 use objects::group::Group;
 use objects::queue::Queue;
 use objects::semaphore::Semaphore;
-use output::{put_byte, put_decimal, put_nothing, put_text};
+use output::Writer;
 use scheduler::Scheduler;
 use scheduler::thread::Place;
 
-fn least(x: usize, y: usize) -> usize
-    ensures { result ≡ min x y }
-{
-    if x < y { x } else { y }
+// A kind of object, whose table is printed by number: the place where threads wait on one, and its line of text, nothing where it is not
+// created.
+trait Object<P, const N: usize>: Copy {
+    ghost waiters: { ℕ → Place };
+
+    ghost object_text: { ℕ → Self → List ℕ → List ℕ };
+
+    fn place(n: u8) -> Place
+        ensures { result ≡ waiters n };
+
+    fn put(&self, w: &mut Writer<P, N>, n: u8, l: &Line)
+        ensures { Puts w.old (object_text n self.now (members l.now)) w.new };
 }
 
-fn put_semaphore(
-    out: &impl Print,
-    buf: &mut [u8],
-    at: usize,
-    n: u32,
-    x: Semaphore,
-    l: Line,
-) -> usize
-    ensures { Put buf.old at (semaphore_text n x (members l)) buf.new result }
+fn put_table<T: Object<P, N>, P: Print, const N: usize>(
+    w: &mut Writer<P, N>,
+    all: &[T],
+    s: &Scheduler,
+)
+    requires { length all.now ≤ 256 }
+    ensures { Puts w.old (each_text (λ n x. T.object_text n x (line_at s.now (T.waiters n))) 0 all.now) w.new }
 {
-    if !x.created {
-        return put_nothing(buf, at);
+    w.put_nothing();
+    for (i, x) in all.iter().enumerate() {
+        let n = i as u8;
+        let l = s.line_at(T::place(n));
+        x.put(w, n, &l);
     }
-    let at = put_field(out, buf, at, b"sem ", n);
-    let at = put_field(out, buf, at, b" count=", x.count);
-    put_line(out, buf, at, l)
 }
 
-pub fn put_semaphores(
-    out: &impl Print,
-    buf: &mut [u8],
-    at: usize,
-    all: [Semaphore; SEMAPHORES],
-    s: Scheduler,
-) -> usize
-    ensures { Put buf.old at (semaphores_text all s) buf.new result }
-{
-    let mut to = put_nothing(buf, at);
-    let mut n: usize = 0;
-    while n < SEMAPHORES {
-        let l = s.line_at(Place::semaphore(SemaphoreId(n as u8)));
-        to = put_semaphore(out, buf, to, n as u32, all[n], l);
-        n += 1;
+impl<P: Print, const N: usize> Object<P, N> for Semaphore {
+    ghost waiters = { waiters_at on_semaphore };
+
+    ghost object_text = { semaphore_text };
+
+    fn place(n: u8) -> Place {
+        Place::semaphore(SemaphoreId(n))
     }
-    to
+
+    fn put(&self, w: &mut Writer<P, N>, n: u8, l: &Line) {
+        if !self.created {
+            return w.put_nothing();
+        }
+        put_field(w, b"sem ", u32::from(n));
+        put_field(w, b" count=", self.count);
+        put_line(w, l);
+    }
+}
+
+#[tactic(auto, unfolding(crate::specs::Objects::semaphores_text))]
+pub fn put_semaphores<P: Print, const N: usize>(
+    w: &mut Writer<P, N>,
+    all: &[Semaphore; SEMAPHORES],
+    s: &Scheduler,
+)
+    ensures { Puts w.old (semaphores_text all.now s.now) w.new }
+{
+    put_table(w, all, s);
 }
 
 // What stands before word i of a queue's store.
@@ -69,139 +90,130 @@ fn separator(i: usize, words: usize) -> u8
 }
 
 // The stored messages, oldest first.
-fn put_stored(out: &impl Print, buf: &mut [u8], at: usize, q: Queue) -> usize
-    ensures { Put buf.old at (stored_text q) buf.new result }
+fn put_stored<P: Print, const N: usize>(w: &mut Writer<P, N>, q: &Queue)
+    ensures { Puts w.old (stored_text q.now) w.new }
 {
-    let store = q.store;
-    let words = q.words as usize;
-    let n = least(words * (q.stored as usize), SLOTS);
-    let mut to = put_nothing(buf, at);
-    let mut i: usize = 0;
-    while i < n {
-        to = put_separator(out, buf, to, i, separator(i, words));
-        to = put_decimal(out, buf, to, wide_word(store[i]));
-        i += 1;
+    let words = usize::from(q.words);
+    let n = (words * usize::from(q.stored)).min(SLOTS);
+    w.put_nothing();
+    for (i, word) in q.store[..n].iter().enumerate() {
+        put_separator(w, i, separator(i, words));
+        w.put_decimal(u64::from(*word));
     }
-    to
 }
 
-fn put_queue_sizes(out: &impl Print, buf: &mut [u8], at: usize, n: u32, q: Queue) -> usize
-    ensures { Put buf.old at (queue_sizes_text n q) buf.new result }
+fn put_queue_sizes<P: Print, const N: usize>(w: &mut Writer<P, N>, n: u8, q: &Queue)
+    ensures { Puts w.old (queue_sizes_text n q.now) w.new }
 {
-    let at = put_field(out, buf, at, b"queue ", n);
-    let at = put_field(out, buf, at, b" size=", q.words as u32);
-    let at = put_field(out, buf, at, b" storage=", q.storage as u32);
-    put_field(out, buf, at, b" cap=", q.capacity() as u32)
+    put_field(w, b"queue ", u32::from(n));
+    put_field(w, b" size=", u32::from(q.words));
+    put_field(w, b" storage=", u32::from(q.storage));
+    put_field(w, b" cap=", u32::from(q.capacity()));
 }
 
-fn put_queue(out: &impl Print, buf: &mut [u8], at: usize, n: u32, q: Queue, l: Line) -> usize
-    ensures { Put buf.old at (queue_text n q (members l)) buf.new result }
-{
-    if !q.created {
-        return put_nothing(buf, at);
+impl<P: Print, const N: usize> Object<P, N> for Queue {
+    ghost waiters = { waiters_at on_queue };
+
+    ghost object_text = { queue_text };
+
+    fn place(n: u8) -> Place {
+        Place::queue(QueueId(n))
     }
-    let at = put_queue_sizes(out, buf, at, n, q);
-    let at = put_text(out, buf, at, b" stored=[");
-    let at = put_stored(out, buf, at, q);
-    let at = put_byte(out, buf, at, b']');
-    put_line(out, buf, at, l)
+
+    fn put(&self, w: &mut Writer<P, N>, n: u8, l: &Line) {
+        if !self.created {
+            return w.put_nothing();
+        }
+        put_queue_sizes(w, n, self);
+        w.put_text(b" stored=[");
+        put_stored(w, self);
+        w.put_byte(b']');
+        put_line(w, l);
+    }
 }
 
-pub fn put_queues(
-    out: &impl Print,
-    buf: &mut [u8],
-    at: usize,
-    all: [Queue; QUEUES],
-    s: Scheduler,
-) -> usize
-    ensures { Put buf.old at (queues_text all s) buf.new result }
+#[tactic(auto, unfolding(crate::specs::Objects::queues_text))]
+pub fn put_queues<P: Print, const N: usize>(
+    w: &mut Writer<P, N>,
+    all: &[Queue; QUEUES],
+    s: &Scheduler,
+)
+    ensures { Puts w.old (queues_text all.now s.now) w.new }
 {
-    let mut to = put_nothing(buf, at);
-    let mut n: usize = 0;
-    while n < QUEUES {
-        let l = s.line_at(Place::queue(QueueId(n as u8)));
-        to = put_queue(out, buf, to, n as u32, all[n], l);
-        n += 1;
-    }
-    to
+    put_table(w, all, s);
 }
 
-fn put_group(out: &impl Print, buf: &mut [u8], at: usize, n: u32, g: Group, l: Line) -> usize
-    ensures { Put buf.old at (group_text n g (members l)) buf.new result }
-{
-    if !g.created {
-        return put_nothing(buf, at);
+impl<P: Print, const N: usize> Object<P, N> for Group {
+    ghost waiters = { waiters_at on_flags };
+
+    ghost object_text = { group_text };
+
+    fn place(n: u8) -> Place {
+        Place::group(GroupId(n))
     }
-    let at = put_field(out, buf, at, b"group ", n);
-    let at = put_field(out, buf, at, b" flags=", g.flags);
-    put_line(out, buf, at, l)
+
+    fn put(&self, w: &mut Writer<P, N>, n: u8, l: &Line) {
+        if !self.created {
+            return w.put_nothing();
+        }
+        put_field(w, b"group ", u32::from(n));
+        put_field(w, b" flags=", self.flags);
+        put_line(w, l);
+    }
 }
 
-pub fn put_groups(
-    out: &impl Print,
-    buf: &mut [u8],
-    at: usize,
-    all: [Group; GROUPS],
-    s: Scheduler,
-) -> usize
-    ensures { Put buf.old at (groups_text all s) buf.new result }
+#[tactic(auto, unfolding(crate::specs::Objects::groups_text))]
+pub fn put_groups<P: Print, const N: usize>(
+    w: &mut Writer<P, N>,
+    all: &[Group; GROUPS],
+    s: &Scheduler,
+)
+    ensures { Puts w.old (groups_text all.now s.now) w.new }
 {
-    let mut to = put_nothing(buf, at);
-    let mut n: usize = 0;
-    while n < GROUPS {
-        let l = s.line_at(Place::group(GroupId(n as u8)));
-        to = put_group(out, buf, to, n as u32, all[n], l);
-        n += 1;
-    }
-    to
+    put_table(w, all, s);
 }
 
 // The free blocks in the order in which they would be given.
-fn put_free(out: &impl Print, buf: &mut [u8], at: usize, p: Pool) -> usize
-    ensures { Put buf.old at (free_text p) buf.new result }
+fn put_free<P: Print, const N: usize>(w: &mut Writer<P, N>, p: &Pool)
+    ensures { Puts w.old (free_text p.now) w.new }
 {
-    let list = p.list;
-    let n = least(p.free as usize, SLOTS);
-    put_numbers(out, buf, at, &list[..n], b',')
+    let n = usize::from(p.free).min(SLOTS);
+    put_numbers(w, &p.list[..n], b',');
 }
 
-fn put_pool_sizes(out: &impl Print, buf: &mut [u8], at: usize, n: u32, p: Pool) -> usize
-    ensures { Put buf.old at (pool_sizes_text n p) buf.new result }
+fn put_pool_sizes<P: Print, const N: usize>(w: &mut Writer<P, N>, n: u8, p: &Pool)
+    ensures { Puts w.old (pool_sizes_text n p.now) w.new }
 {
-    let at = put_field(out, buf, at, b"pool ", n);
-    let at = put_field(out, buf, at, b" block=", p.block as u32);
-    let at = put_field(out, buf, at, b" total=", p.total);
-    put_field(out, buf, at, b" blocks=", p.blocks())
+    put_field(w, b"pool ", u32::from(n));
+    put_field(w, b" block=", u32::from(p.block));
+    put_field(w, b" total=", p.total);
+    put_field(w, b" blocks=", p.blocks());
 }
 
-fn put_pool(out: &impl Print, buf: &mut [u8], at: usize, n: u32, p: Pool, l: Line) -> usize
-    ensures { Put buf.old at (pool_text n p (members l)) buf.new result }
-{
-    if !p.created {
-        return put_nothing(buf, at);
+impl<P: Print, const N: usize> Object<P, N> for Pool {
+    ghost waiters = { waiters_at on_block };
+
+    ghost object_text = { pool_text };
+
+    fn place(n: u8) -> Place {
+        Place::pool(PoolId(n))
     }
-    let at = put_pool_sizes(out, buf, at, n, p);
-    let at = put_text(out, buf, at, b" free=[");
-    let at = put_free(out, buf, at, p);
-    let at = put_text(out, buf, at, b"] ");
-    put_line(out, buf, at, l)
+
+    fn put(&self, w: &mut Writer<P, N>, n: u8, l: &Line) {
+        if !self.created {
+            return w.put_nothing();
+        }
+        put_pool_sizes(w, n, self);
+        w.put_text(b" free=[");
+        put_free(w, self);
+        w.put_text(b"] ");
+        put_line(w, l);
+    }
 }
 
-pub fn put_pools(
-    out: &impl Print,
-    buf: &mut [u8],
-    at: usize,
-    all: [Pool; POOLS],
-    s: Scheduler,
-) -> usize
-    ensures { Put buf.old at (pools_text all s) buf.new result }
+#[tactic(auto, unfolding(crate::specs::Objects::pools_text))]
+pub fn put_pools<P: Print, const N: usize>(w: &mut Writer<P, N>, all: &[Pool; POOLS], s: &Scheduler)
+    ensures { Puts w.old (pools_text all.now s.now) w.new }
 {
-    let mut to = put_nothing(buf, at);
-    let mut n: usize = 0;
-    while n < POOLS {
-        let l = s.line_at(Place::pool(PoolId(n as u8)));
-        to = put_pool(out, buf, to, n as u32, all[n], l);
-        n += 1;
-    }
-    to
+    put_table(w, all, s);
 }

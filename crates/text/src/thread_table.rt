@@ -2,131 +2,114 @@
 ghost use Rattle.std.specs.Prelude.{◌≡◌};
 ghost use Rattle.lines.specs.Logic.{one_if};
 ghost use Rattle.lines.specs.Lines.{members};
-ghost use Rattle.output.specs.Texts.{Put};
+ghost use Rattle.output.specs.Texts.{Puts};
 ghost use Rattle.text.specs.Threads.{wait_text, levels_text, marks_text, request_text, held_text, record_text, threads_text, order_text, orders_text};
 
-use super::{put_field, put_line, put_words};
+use super::{put_field, put_line, put_numbers};
 use calls::held::Held;
 use lines::Line;
 use numbers::{PRIORITIES, THREADS};
-use output::{put_byte, put_nothing, put_text};
+use output::Writer;
 use scheduler::Scheduler;
 use scheduler::thread::{Place, Thread};
 use waiting::ticks::FOREVER;
 
-fn bit(b: bool) -> u32
-    ensures { result ≡ one_if b }
-{
-    if b { 1 } else { 0 }
-}
-
 // The kind of a wait and the ticks left of a timed one.
-fn put_wait(out: &impl Print, buf: &mut [u8], at: usize, ticks: u32) -> usize
-    ensures { Put buf.old at (wait_text ticks) buf.new result }
+fn put_wait<P: Print, const N: usize>(w: &mut Writer<P, N>, ticks: u32)
+    ensures { Puts w.old (wait_text ticks) w.new }
 {
-    if ticks == 0 {
-        return put_text(out, buf, at, b" wait=none ticks=0");
+    match ticks {
+        0 => w.put_text(b" wait=none ticks=0"),
+        FOREVER => w.put_text(b" wait=forever ticks=0"),
+        _ => put_field(w, b" wait=timed ticks=", ticks),
     }
-    if ticks == FOREVER {
-        return put_text(out, buf, at, b" wait=forever ticks=0");
-    }
-    put_field(out, buf, at, b" wait=timed ticks=", ticks)
 }
 
 // The levels of a thread.
-fn put_levels(out: &impl Print, buf: &mut [u8], at: usize, t: u32, th: Thread) -> usize
-    ensures { Put buf.old at (levels_text t th) buf.new result }
+fn put_levels<P: Print, const N: usize>(w: &mut Writer<P, N>, t: u32, th: &Thread)
+    ensures { Puts w.old (levels_text t th.now) w.new }
 {
-    let at = put_field(out, buf, at, b"thread ", t);
-    let at = put_field(out, buf, at, b" state=", th.state as u32);
-    let at = put_field(out, buf, at, b" prio=", th.priority as u32);
-    put_field(out, buf, at, b" thr=", th.threshold as u32)
+    put_field(w, b"thread ", t);
+    put_field(w, b" state=", u32::from(th.state));
+    put_field(w, b" prio=", u32::from(th.priority));
+    put_field(w, b" thr=", u32::from(th.threshold));
 }
 
 // The mark, the held suspension and the held status.
-fn put_marks(out: &impl Print, buf: &mut [u8], at: usize, th: Thread, h: Held) -> usize
-    ensures { Put buf.old at (marks_text th h) buf.new result }
+fn put_marks<P: Print, const N: usize>(w: &mut Writer<P, N>, th: &Thread, h: &Held)
+    ensures { Puts w.old (marks_text th.now h.now) w.new }
 {
-    let at = put_field(out, buf, at, b" mark=", bit(th.marked));
-    let at = put_field(out, buf, at, b" held=", bit(th.suspending));
-    put_field(out, buf, at, b" status=", h.status)
+    put_field(w, b" mark=", u32::from(th.marked));
+    put_field(w, b" held=", u32::from(th.suspending));
+    put_field(w, b" status=", h.status);
 }
 
 // What a thread waits for.
-fn put_request(out: &impl Print, buf: &mut [u8], at: usize, th: Thread, h: Held) -> usize
-    ensures { Put buf.old at (request_text th h) buf.new result }
+fn put_request<P: Print, const N: usize>(w: &mut Writer<P, N>, th: &Thread, h: &Held)
+    ensures { Puts w.old (request_text th.now h.now) w.new }
 {
-    let at = put_field(out, buf, at, b" obj=", th.object as u32);
-    let at = put_field(out, buf, at, b" front=", bit(h.front));
-    let at = put_field(out, buf, at, b" req=", h.request);
-    put_field(out, buf, at, b" opt=", h.option as u32)
+    put_field(w, b" obj=", u32::from(th.object));
+    put_field(w, b" front=", u32::from(h.front));
+    put_field(w, b" req=", h.request);
+    put_field(w, b" opt=", u32::from(h.option));
 }
 
 // The held words, what the thread waits for and the message that it would send.
-fn put_held(out: &impl Print, buf: &mut [u8], at: usize, th: Thread, h: Held) -> usize
-    ensures { Put buf.old at (held_text th h) buf.new result }
+fn put_held<P: Print, const N: usize>(w: &mut Writer<P, N>, th: &Thread, h: &Held)
+    ensures { Puts w.old (held_text th.now h.now) w.new }
 {
-    let words = h.held_words();
-    let message = h.message();
-    let at = put_text(out, buf, at, b" words=");
-    let at = put_words(out, buf, at, &words, b',');
-    let at = put_request(out, buf, at, th, h);
-    let at = put_text(out, buf, at, b" msg=");
-    put_words(out, buf, at, &message, b',')
+    w.put_text(b" words=");
+    put_numbers(w, &h.held_words(), b',');
+    put_request(w, th, h);
+    w.put_text(b" msg=");
+    put_numbers(w, &h.message(), b',');
 }
 
 // A thread's line, nothing where it is not created.
-fn put_record(out: &impl Print, buf: &mut [u8], at: usize, t: u32, th: Thread, h: Held) -> usize
-    ensures { Put buf.old at (record_text t th h) buf.new result }
+fn put_record<P: Print, const N: usize>(w: &mut Writer<P, N>, t: u32, th: &Thread, h: &Held)
+    ensures { Puts w.old (record_text t th.now h.now) w.new }
 {
     if !th.created {
-        return put_nothing(buf, at);
+        return w.put_nothing();
     }
-    let at = put_levels(out, buf, at, t, th);
-    let at = put_marks(out, buf, at, th, h);
-    let at = put_wait(out, buf, at, th.ticks);
-    let at = put_held(out, buf, at, th, h);
-    put_byte(out, buf, at, b'\n')
+    put_levels(w, t, th);
+    put_marks(w, th, h);
+    put_wait(w, th.ticks);
+    put_held(w, th, h);
+    w.put_byte(b'\n');
 }
 
-pub fn put_threads(
-    out: &impl Print,
-    buf: &mut [u8],
-    at: usize,
-    threads: [Thread; THREADS],
-    held: [Held; THREADS],
-) -> usize
-    ensures { Put buf.old at (threads_text threads held) buf.new result }
+pub fn put_threads<P: Print, const N: usize>(
+    w: &mut Writer<P, N>,
+    threads: &[Thread; THREADS],
+    held: &[Held; THREADS],
+)
+    ensures { Puts w.old (threads_text threads.now held.now) w.new }
 {
-    let mut to = put_nothing(buf, at);
-    let mut t: usize = 0;
-    while t < THREADS {
-        to = put_record(out, buf, to, t as u32, threads[t], held[t]);
-        t += 1;
+    // A loop of its own, and not `put_table`'s: a thread's line is made of two tables.
+    w.put_nothing();
+    for (t, th) in threads.iter().enumerate() {
+        put_record(w, t as u32, th, &held[t]);
     }
-    to
 }
 
 // The order of a priority, nothing where it is empty.
-fn put_order(out: &impl Print, buf: &mut [u8], at: usize, priority: u32, l: Line) -> usize
-    ensures { Put buf.old at (order_text priority (members l)) buf.new result }
+fn put_order<P: Print, const N: usize>(w: &mut Writer<P, N>, priority: u32, l: &Line)
+    ensures { Puts w.old (order_text priority (members l.now)) w.new }
 {
     if l.size() == 0 {
-        return put_nothing(buf, at);
+        return w.put_nothing();
     }
-    let at = put_field(out, buf, at, b"ready ", priority);
-    put_line(out, buf, at, l)
+    put_field(w, b"ready ", priority);
+    put_line(w, l);
 }
 
-pub fn put_orders(out: &impl Print, buf: &mut [u8], at: usize, s: Scheduler) -> usize
-    ensures { Put buf.old at (orders_text s) buf.new result }
+pub fn put_orders<P: Print, const N: usize>(w: &mut Writer<P, N>, s: &Scheduler)
+    ensures { Puts w.old (orders_text s.now) w.new }
 {
-    let mut to = put_nothing(buf, at);
-    let mut p: u32 = 0;
-    while p < PRIORITIES {
+    w.put_nothing();
+    for p in 0..PRIORITIES {
         let l = s.line_at(Place::ready(p as u8));
-        to = put_order(out, buf, to, p, l);
-        p += 1;
+        put_order(w, p, &l);
     }
-    to
 }

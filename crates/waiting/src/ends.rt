@@ -30,9 +30,7 @@ fn reason_of(by: By) -> Reason
     ensures { result ≡ reason_by by }
 {
     match by {
-        By::Give => Reason::Served,
-        By::Take => Reason::Served,
-        By::Empty => Reason::Served,
+        By::Give | By::Take | By::Empty => Reason::Served,
         By::Delete => Reason::Deleted,
         By::Tick(_) => Reason::TimedOut,
         By::Abort => Reason::Aborted,
@@ -43,9 +41,7 @@ fn status_left(by: By) -> u32
     ensures { result ≡ status_left by }
 {
     match by {
-        By::Give => SUCCESS,
-        By::Take => SUCCESS,
-        By::Empty => SUCCESS,
+        By::Give | By::Take | By::Empty => SUCCESS,
         By::Delete => DELETED,
         By::Tick(status) => status,
         By::Abort => WAIT_ABORTED,

@@ -6,17 +6,19 @@ use calls::held::Held;
 use calls::status::{NO_EVENTS, NO_INSTANCE, NO_MEMORY, QUEUE_EMPTY, QUEUE_FULL, SUCCESS};
 use scheduler::thread::{ASLEEP, ON_FLAGS, ON_QUEUE, ON_SEMAPHORE, Thread};
 
-// The ticks of a wait without end.
+// The ticks of a wait without end. A number and no Option: an argument, a record and the block have it, and `timedb` speaks of it.
 pub const FOREVER: u32 = 0xFFFFFFFF;
 
 // The clock after a tick; after the last number of 32 bits comes 0.
+#[tactic(auto, unfolding(crate::specs::Ticks::next_time))]
 pub fn next_time(time: u32) -> u32
     ensures { result ≡ next_time time }
 {
-    std::num::wrapping_add_u32(time, 1)
+    time.wrapping_add(1)
 }
 
 // Whether the thread's wait or sleep has an end of its own.
+#[tactic(auto, unfolding(crate::specs::Ticks::timedb))]
 pub fn is_timed(th: Thread) -> bool
     ensures { result ≡ timedb th }
 {
@@ -30,31 +32,24 @@ pub fn is_last_tick(th: Thread) -> bool
     is_timed(th) & (th.ticks < 2)
 }
 
-pub fn with_ticks(mut th: Thread, ticks: u32) -> Thread
+#[tactic(auto, unfolding(crate::specs::Ticks::with_ticks))]
+pub fn with_ticks(th: Thread, ticks: u32) -> Thread
     ensures { result ≡ with_ticks ticks th }
 {
-    th.ticks = ticks;
-    th
+    Thread { ticks, ..th }
 }
 
 // What a wait that times out leaves.
+#[tactic(auto, unfolding(crate::specs::Ticks::timeout_status))]
 pub fn timeout_status(th: Thread, h: Held) -> u32
     ensures { result ≡ timeout_status th h }
 {
-    if th.state == ASLEEP {
-        return SUCCESS;
+    match th.state {
+        ASLEEP => SUCCESS,
+        ON_QUEUE if h.sending => QUEUE_FULL,
+        ON_QUEUE => QUEUE_EMPTY,
+        ON_SEMAPHORE => NO_INSTANCE,
+        ON_FLAGS => NO_EVENTS,
+        _ => NO_MEMORY,
     }
-    if th.state == ON_QUEUE {
-        if h.sending {
-            return QUEUE_FULL;
-        }
-        return QUEUE_EMPTY;
-    }
-    if th.state == ON_SEMAPHORE {
-        return NO_INSTANCE;
-    }
-    if th.state == ON_FLAGS {
-        return NO_EVENTS;
-    }
-    NO_MEMORY
 }

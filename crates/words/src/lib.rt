@@ -14,31 +14,28 @@ pub const HALF_BYTES: usize = 2;
 pub fn joined(b0: u8, b1: u8, b2: u8, b3: u8) -> u32
     ensures { result ≡ word b0 b1 b2 b3 }
 {
-    (b0 as u32) + 0x100 * (b1 as u32) + 0x1_0000 * (b2 as u32) + 0x100_0000 * (b3 as u32)
+    u32::from_le_bytes([b0, b1, b2, b3])
 }
 
 // The four bytes of a word.
+#[tactic(auto, unfolding(crate::specs::Words::word_bytes))]
 pub fn bytes_of(x: u32) -> [u8; 4]
     ensures { result ≡ word_bytes x }
 {
-    [
-        (x % 0x100) as u8,
-        (x / 0x100 % 0x100) as u8,
-        (x / 0x1_0000 % 0x100) as u8,
-        (x / 0x100_0000 % 0x100) as u8,
-    ]
+    u32::to_le_bytes(x)
 }
 
 // The half that two bytes spell.
 pub fn half_joined(b0: u8, b1: u8) -> u16
     ensures { result ≡ half b0 b1 }
 {
-    (b0 as u16) + 0x100 * (b1 as u16)
+    u16::from_le_bytes([b0, b1])
 }
 
 // The two bytes of a half.
+#[tactic(auto, unfolding(crate::specs::Words::half_bytes))]
 pub fn half_bytes_of(x: u16) -> [u8; 2]
     ensures { result ≡ half_bytes x }
 {
-    [(x % 0x100) as u8, (x / 0x100 % 0x100) as u8]
+    u16::to_le_bytes(x)
 }

@@ -290,7 +290,7 @@ fn cited_in(text: &str, crates: &BTreeSet<String>) -> Vec<Definition> {
             let names = rest[line.len() + 1..].split('}').next().unwrap();
             names
                 .split(',')
-                .map(|name| name.trim().to_string())
+                .map(|name| name.split(" as ").next().unwrap().trim().to_string())
                 .filter(|name| !name.is_empty())
                 .collect()
         } else {

@@ -1,5 +1,5 @@
 -- Laws of refusals: a block that is not refused has its size, and is read and written whole.
-use mathlib.Core.Path.{◌≡◌, ap, ◌∙◌}
+use mathlib.Core.Path.{◌≡◌, refl, ap, ◌∙◌}
 use mathlib.Core.List.{List}
 use mathlib.Core.Bool.{Bool, true, false, ◌&&◌}
 use Prim.Native.Nat.{ℕ, ◌≤◌}
@@ -9,12 +9,12 @@ use lib.ListN.{length}
 use lib.Dec.{eqb}
 use borrow.Author.Tests.{eqb-true, eq-eqb}
 use Rattle.std.specs.Prelude.{if◌then◌else◌}
-use Rattle.kernel.specs.declared.Kernel.{Kernel}
-use Rattle.kernel.specs.Tables.{started}
 use Rattle.codec.specs.Layout.{state_bytes}
-use Rattle.codec.specs.State.{kernel_of, tables_of, flags_fitb}
-use Rattle.codec.specs.Bytes.{bytes_of, block_after}
+use Rattle.codec.specs.State.{flags_fitb}
+use Rattle.apachimo.specs.declared.Refused.{Refused}
+use Rattle.apachimo.specs.declared.Refused.TheVariants.{Size, Tape, Unsound}
 use Rattle.apachimo.specs.Library.{block_refusal, run_refusal}
+use Rattle.apachimo.specs.Refusals.{refusal_status}
 
 -- where a test fails, a reason other than 0 is given
 sized : (b : Bool) (r : ℕ) → (if b then r else 5) ≡ 0 → b ≡ true
@@ -32,14 +32,11 @@ pub run_sized : (b tape : List ℕ) (most room : ℕ) → run_refusal b tape mos
 unfolding run_refusal
 run_sized b tape most room e = eqb-true (length b) state_bytes (sized (eqb (length b) state_bytes) _ e)
 
--- ---- what is read from a block of that size, and written to it
-pub sized_tables : (b : List ℕ) → length b ≡ state_bytes → tables_of b ≡ kernel_of b
-unfolding tables_of
-sized_tables b h = ap (λ (x : Bool). if x then kernel_of b else started) (eq-eqb (length b) state_bytes h)
-
-pub sized-after : (b : List ℕ) (k : Kernel) → length b ≡ state_bytes → block_after b k ≡ bytes_of k
-unfolding block_after
-sized-after b k h = ap (λ (x : Bool). if x then bytes_of k else b) (eq-eqb (length b) state_bytes h)
-
 pub sized-flags : (b : List ℕ) (r : Bool) → r ≡ (eqb (length b) state_bytes && flags_fitb b) → length b ≡ state_bytes → r ≡ flags_fitb b
 sized-flags b r e h = e ∙ ap (λ (x : Bool). x && flags_fitb b) (eq-eqb (length b) state_bytes h)
+
+-- a refusal has a status other than 0
+pub status_given : (e : Refused) → eqb (refusal_status e) 0 ≡ false
+status_given Size = refl
+status_given Tape = refl
+status_given Unsound = refl

@@ -1,4 +1,3 @@
-use borrow.Author.Rules.{rules}
 use borrow.Author.Tests.{eq-eqb, ne_eqb}
 use Rattle.apachimo.specs.Library.{block_refusal}
 use Rattle.apachimo.proofs.Laws.Library.{sized-flags}
@@ -7,10 +6,6 @@ use Rattle.apachimo.proofs.block_refusal.Goals as goal
 pub returns-then-state-ne-STATE_BYTES : goal.returns-then-state-ne-STATE_BYTES
 unfolding block_refusal
 returns-then-state-ne-STATE_BYTES c = rw (ne_eqb _ _ c.if-state-ne-STATE_BYTES.true)
-
-pub are_fit-requires : goal.are_fit-requires
-unfolding block_refusal
-are_fit-requires c = search rules
 
 pub returns-then-are_fit : goal.returns-then-are_fit
 unfolding block_refusal

@@ -1,14 +1,15 @@
 -- Laws of lists of block numbers: below a bound slot by slot, and how often each is listed.
 use mathlib.Core.Path.{◌≡◌, refl, sym, ap, ◌∙◌}
 use mathlib.Core.List.{List, [], ◌∷◌, ◌++◌}
-use mathlib.Core.Bool.{Bool, true, false, ◌&&◌, not, and-true, and-false, and_assoc}
+use mathlib.Core.Bool.{Bool, true, false, ◌&&◌, not, and-true, and_assoc}
 use Prim.Native.Nat.{ℕ, zero, suc, ◌+◌, ◌≤◌, ◌<◌}
 use native.Mathlib.Nat.{not-suc-le-zero, le_of_suc-le-suc}
 use native.Mathlib.Omega.{arith}
-use lib.ListN.{length, take, drop, get_or, set, length-take}
-use lib.Seq.{get_or-take, get_or-set_same, get_or-set_other}
+use lib.ListN.{length, take, drop, get_or, set}
+use lib.Seq.{get_or-set_same, get_or-set_other}
 use lib.Dec.{eqb, ltb, leb}
 use borrow.Author.Tests.{ltb-true, leb-true, le-leb, eqb-true, eq-eqb, ne_eqb}
+use Rattle.std.specs.List.{list_all}
 use Rattle.lines.specs.Logic.{one_if}
 use Rattle.lines.specs.Lists.{count, below}
 use Rattle.lines.proofs.Laws.Logic.{by_test, by_eq, and_left, and_right, and_in, one_at_most, all-at, all_in}
@@ -67,18 +68,14 @@ tallied_past counts xs i h l t k b =
     omega (arith, o, w, r)
 
 -- ---- a number that is not listed
--- one slot more in which it does not stand
-pub unlisted_more : (b : Bool) (n i : ℕ) (xs : List ℕ) → i < length xs
-    → (b && eqb (count n (take i xs)) 0 && not (eqb (get_or xs i 0) n)) ≡ (b && eqb (count n (take (i + 1) xs)) 0)
-unfolding one_if
-unlisted_more b n i xs h =
-    let o : count n (take (i + 1) xs) ≡ count n (take i xs) + one_if (eqb (get_or xs i 0) n) = ap (count n) (take_one xs i h) ∙ count_one n (get_or xs i 0) (take i xs) in
-    and_assoc b (eqb (count n (take i xs)) 0) (not (eqb (get_or xs i 0) n))
-    ∙ ap (λ (r : Bool). b && r) (go (count n (take i xs)) (eqb (get_or xs i 0) n) ∙ ap (λ (k : ℕ). eqb k 0) (sym o))
+pub unlisted : (n : ℕ) (xs : List ℕ) → list_all (λ (x : ℕ). not (eqb x n)) xs ≡ eqb (count n xs) 0
+unfolding count one_if
+unlisted n [] = refl
+unlisted n (x ∷ xs) = ap (λ (b : Bool). not (eqb x n) && b) (unlisted n xs) ∙ go (eqb x n) (count n xs)
   where
-    go : (k : ℕ) (e : Bool) → (eqb k 0 && not e) ≡ eqb (k + one_if e) 0
-    go k true = and-false (eqb k 0) ∙ sym (ne_eqb (k + 1) 0 (λ z. not-suc-le-zero (let y : 1 ≤ 0 = omega (arith, z) in y)))
-    go k false = and-true (eqb k 0) ∙ ap (λ (j : ℕ). eqb j 0) (let z : k ≡ k + 0 = omega arith in z)
+    go : (e : Bool) (k : ℕ) → (not e && eqb k 0) ≡ eqb (one_if e + k) 0
+    go true k = sym (ne_eqb (1 + k) 0 (λ z. not-suc-le-zero (let y : 1 ≤ 0 = omega (arith, z) in y)))
+    go false k = ap (λ (j : ℕ). eqb j 0) (let z : k ≡ 0 + k = omega arith in z)
 
 -- ---- one slot more of a listing
 pub below_more : (n i : ℕ) (xs : List ℕ) → i < length xs → (below n (take i xs) && ltb (get_or xs i 0) n) ≡ below n (take (i + 1) xs)
@@ -129,35 +126,31 @@ module _ (i : ℕ) (xs : List ℕ) (h : i < length xs) where
 
 -- ---- what breaks a listing
 -- a number that is no block
-pub below_broken : (b i n : ℕ) (xs : List ℕ) → i < n → i < length xs → b ≤ get_or xs i 0 → below b (take n xs) ≡ false
-below_broken b i n xs l h o =
-    by_test (below b (take n xs))
-    (λ e. let m = length-take n xs in
-    let g = get_or-take n xs i 0 l in
-    let s = below_at b (take n xs) e i (omega (arith, m, l, h)) in
-    absurd (omega (arith, g, s, o)))
+pub below_broken : (b i : ℕ) (xs : List ℕ) → i < length xs → b ≤ get_or xs i 0 → below b xs ≡ false
+below_broken b i xs h o =
+    by_test (below b xs)
+    (λ e. let s = below_at b xs e i h in absurd (omega (arith, s, o)))
     (λ e. e)
 
--- a longer part lists no number less often
-count_grows : (t j n : ℕ) (xs : List ℕ) → j ≤ n → count t (take j xs) ≤ count t (take n xs)
+-- a part lists no number more often
+count_part : (t j : ℕ) (xs : List ℕ) → count t (take j xs) ≤ count t xs
 unfolding count
-count_grows t zero n xs h = omega arith
-count_grows t (suc j) zero xs h = absurd (not-suc-le-zero h)
-count_grows t (suc j) (suc n) [] h = omega arith
-count_grows t (suc j) (suc n) (x ∷ xs) h =
-    let r = count_grows t j n xs (le_of_suc-le-suc h) in
+count_part t zero xs = omega arith
+count_part t (suc j) [] = omega arith
+count_part t (suc j) (x ∷ xs) =
+    let r = count_part t j xs in
     let a : count t (take (suc j) (x ∷ xs)) ≡ one_if (eqb x t) + count t (take j xs) = refl in
-    let b : count t (take (suc n) (x ∷ xs)) ≡ one_if (eqb x t) + count t (take n xs) = refl in
+    let b : count t (x ∷ xs) ≡ one_if (eqb x t) + count t xs = refl in
     omega (arith, r, a, b)
 
 -- a number that is listed again
-pub once_broken : (i n : ℕ) (xs : List ℕ) → i < n → i < length xs → get_or xs i 0 < 64 → (count (get_or xs i 0) (take i xs) ≡ 0 → ⊥) → onceb (take n xs) ≡ false
+pub once_broken : (i : ℕ) (xs : List ℕ) → i < length xs → get_or xs i 0 < 64 → (count (get_or xs i 0) (take i xs) ≡ 0 → ⊥) → onceb xs ≡ false
 unfolding onceb one_if
-once_broken i n xs l h s o =
-    by_test (onceb (take n xs))
+once_broken i xs h s o =
+    by_test (onceb xs)
     (λ e. let x = get_or xs i 0 in
-    let m = leb-true (count x (take n xs)) 1 (all-at 64 (λ k. leb (count k (take n xs)) 1) e x s) in
-    let g = count_grows x (i + 1) n xs (omega (arith, l)) in
+    let m = leb-true (count x xs) 1 (all-at 64 (λ k. leb (count k xs) 1) e x s) in
+    let g = count_part x (i + 1) xs in
     let w : one_if (eqb x x) ≡ 1 = ap one_if (eq-eqb x x refl) in
     let c = count_next i xs h x in
     absurd (o (omega (arith, m, g, w, c))))

@@ -17,7 +17,7 @@ use Rattle.lines.proofs.Laws.Lines.{take-pad, pad-take, length-pad, get_d-pad}
 use Rattle.blocks.specs.declared.pool.Pool.{Pool}
 use Rattle.lines.specs.Slots.{zero_from}
 use Rattle.blocks.specs.Pools.{no_pool, blocks_of, free_blocks, block_sizesb, pool_limitsb, onceb, listingb, list_fitb, pool_zerob, pool_fitb, listing, fresh_pool, usedb, next_block, without_next, with_free, PoolClaims}
-use Rattle.lines.proofs.Laws.Slots.{none_used, zero_in, take_again, drop_most, part}
+use Rattle.lines.proofs.Laws.Slots.{none_used, zero_in}
 use Rattle.blocks.proofs.Laws.Listings.{count_left, first_rest}
 
 pub none_fit : pool_fitb no_pool ≡ true
@@ -133,22 +133,6 @@ module _ (p : Pool) (e : pool_fitb p ≡ true) (u : p.created ≡ true) where
   pub fit_length : length p.list ≡ 64 → length (free_blocks p) ≡ p.free
   unfolding free_blocks
   fit_length l = let m = length-take p.free p.list in let f = fit_free in let b = fit_blocks.1 in omega (arith, m, f, b, l)
-
--- ---- the free blocks, as they are read from the list
-module _ (p : Pool) (n : ℕ) (e : n ≡ length (free_blocks p)) where
-  pub listed_most : n ≤ length p.list
-  unfolding free_blocks
-  listed_most = let m = length-take p.free p.list in omega (arith, m, e)
-
-  pub listed_free : take n p.list ≡ free_blocks p
-  unfolding free_blocks
-  listed_free = ap (λ (k : ℕ). take k p.list) e ∙ take_again p.free p.list
-
-  pub listed_left : (k : ℕ) → k ≡ min 1 n → take (n - k) (drop k p.list) ≡ drop 1 (free_blocks p)
-  listed_left k g =
-      part k n p.list
-      ∙ ap (drop k) listed_free
-      ∙ drop_most 1 k (free_blocks p) (g ∙ ap (min 1) e)
 
 -- ---- a pool with other free blocks
 -- the list has room for 64

@@ -18,7 +18,7 @@ use Rattle.blocks.specs.declared.pool.Pool.{Pool}
 use Rattle.blocks.specs.declared.view.Extent.{Extent}
 use Rattle.blocks.specs.Pools.{blocks_of, free_blocks, listing, fresh_pool, usedb, without_next, with_free, block_start}
 use Rattle.blocks.specs.Views.{viewedb, extent_of, viewed, written, p8, p8_area, ViewClaims}
-use Rattle.lines.proofs.Laws.Slots.{part}
+use Rattle.std.proofs.lemmas.Slice.{between_is}
 
 -- ---- where blocks lie
 -- the next block's overhead starts where a block ends
@@ -170,7 +170,7 @@ module _ (p : Pool) (n : ℕ) (bytes area : List ℕ) where
       viewed_shown p n (written p n bytes area) (shown_kept n ∙ v)
       ∙ ap (λ (xs : List ℕ). take p.block (drop at xs)) (written_shown p n area bytes v ∙ ap (paste area at bytes) b)
       ∙ ap (λ (m : ℕ). take m (drop at (paste area at bytes p.block))) (sym j)
-      ∙ part at (at + p.block) (paste area at bytes p.block)
+      ∙ between_is (paste area at bytes p.block) at (at + p.block)
       ∙ ap (drop at) (take-paste area at bytes p.block (front v) (omega (arith, l)))
       ∙ drop_at (take at area) (take p.block bytes) at (length-take-le at area (front v))
       ∙ take_all p.block bytes (omega (arith, l))

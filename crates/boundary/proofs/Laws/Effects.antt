@@ -1,4 +1,5 @@
 -- Every call's effect has words for data, where the tables, the arguments and the message words are words.
+use Rattle.std.specs.Prelude.{Option, Some, None}
 use mathlib.Core.Path.{◌≡◌, refl}
 use mathlib.Core.List.{List, [], ◌∷◌, ◌++◌}
 use mathlib.Core.Bool.{Bool, false}
@@ -22,12 +23,11 @@ use Rattle.objects.specs.Queues.{emptyb, roomb, empty_queue, used_words, stored_
 use Rattle.objects.specs.Groups.{group_with, metb, less_flags}
 use Rattle.blocks.specs.declared.pool.Pool.{Pool}
 use Rattle.blocks.specs.Pools.{listing, fresh_pool, without_next, with_free}
+use Rattle.calls.specs.declared.call.Call.{Call}
 use Rattle.calls.specs.declared.held.Held.{Held}
 use Rattle.calls.specs.Held.{no_words, one_word, held_waiting, sending, requesting, message_of}
 use Rattle.calls.specs.Messages.{message_in}
 use Rattle.calls.specs.Calls.{known_call}
-use Rattle.calls.specs.declared.call.Decoded.{Decoded}
-use Rattle.calls.specs.declared.call.Decoded.TheVariants.{Known, Unknown}
 use Rattle.calls.proofs.Laws.Calls.{by_number}
 use Rattle.waiting.specs.Ticks.{next_time, timedb, at_zerob}
 use Rattle.kernel.specs.declared.Kernel.{Kernel}
@@ -310,9 +310,9 @@ module _ (k : Kernel) (W : Worded k) where
   -- ---- every call
   module _ (caller a b c d : ℕ) (ha : Word a) (hb : Word b) (hc : Word c) (hd : Word d) (messages : List ℕ) (f : All Word messages) where
     -- the edits of a call that is not refused
-    abbrev pub KnownWords : ℕ → Decoded → Type 0
-    KnownWords n (Known call) = chained k caller call messages ≡ 0 → EffectWords (effect_of k call messages)
-    KnownWords n Unknown = Unit {0}
+    abbrev pub KnownWords : ℕ → Option Call → Type 0
+    KnownWords n (Some call) = chained k caller call messages ≡ 0 → EffectWords (effect_of k call messages)
+    KnownWords n None = Unit {0}
 
     pub known-words : (n : ℕ) → KnownWords n (known_call n a b c d)
     unfolding known_call effect_of chained chain_of semaphore_get_effect allocate_effect counting empty_queue group_with fresh_pool

@@ -1,4 +1,5 @@
 -- Sound tables whose words are words fit a block, and so a call leaves tables that fit.
+use Rattle.std.specs.Prelude.{Option, Some, None}
 use mathlib.Core.Path.{◌≡◌, refl, sym, ◌∙◌}
 use mathlib.Core.List.{List, []}
 use mathlib.Core.Bool.{Bool, true, ◌&&◌, ◌||◌, not}
@@ -32,10 +33,9 @@ use Rattle.blocks.specs.declared.pool.Pool.{Pool}
 use Rattle.blocks.specs.Pools.{no_pool, blocks_of, free_blocks, pool_limitsb, listingb, list_fitb, pool_zerob, pool_fitb}
 use Rattle.blocks.proofs.Laws.Listings.{below_at}
 use Rattle.blocks.proofs.Laws.Pools as Pools
+use Rattle.calls.specs.declared.call.Call.{Call}
 use Rattle.calls.specs.Held.{no_held}
 use Rattle.calls.specs.declared.call.Request.{Request}
-use Rattle.calls.specs.declared.call.Decoded.{Decoded}
-use Rattle.calls.specs.declared.call.Decoded.TheVariants.{Known, Unknown}
 use Rattle.calls.specs.Calls.{decoded, known_call}
 use Rattle.waiting.specs.Fit.{status_fitb, words_fitb, sender_fitb, request_fitb, unheld_fitb, held_fitb}
 use Rattle.waiting.proofs.Laws.Held.{in-state}
@@ -253,21 +253,21 @@ module _ (k : Kernel) (W : Worded k) (q : Request) (messages : List ℕ) where
       with-scheduler x X _ (chosen-words x.scheduler X.scheduler e.relinquishes)
 
   module _ (p : Passed (record { request = q; messages = messages })) where
-    abbrev Words : Decoded → Type 0
+    abbrev Words : Option Call → Type 0
     Words = KnownWords k W q.caller q.a q.b q.c q.d p.a p.b p.c p.d messages p.messages q.number
 
-    of-decoded : (x : Decoded) → Same k q.caller q.a q.b q.c q.d messages q.number x → Words x → Worded (step_of k q x messages).kernel
+    of-decoded : (x : Option Call) → Same k q.caller q.a q.b q.c q.d messages q.number x → Words x → Worded (step_of k q x messages).kernel
     unfolding step_of guarded refused
-    of-decoded (Known c) same w =
+    of-decoded (Some c) same w =
         by_choice (λ (o : Outcome). Worded o.kernel) (eqb (reason_of k q messages) 0) (carried_out k (effect_of k c messages)) (refused k (reason_of k q messages))
         (λ e. carried-words (effect_of k c messages) (w (sym same ∙ eqb-true (reason_of k q messages) 0 e))) (λ e. W)
-    of-decoded Unknown same w = W
+    of-decoded None same w = W
 
     step_words : Worded (step k q messages).kernel
     unfolding step decoded
     step_words =
         of-decoded (decoded q) (same_reason k q messages)
-        (by_choice Words (ltb 2 q.caller) Unknown (known_call q.number q.a q.b q.c q.d) (λ e. tt)
+        (by_choice Words (ltb 2 q.caller) None (known_call q.number q.a q.b q.c q.d) (λ e. tt)
         (λ e. known-words k W q.caller q.a q.b q.c q.d p.a p.b p.c p.d messages p.messages q.number))
 
 pub call_fits : (k : Kernel) → Fits k → (m : Made) → Passed m → Fits (next k m)

@@ -1,46 +1,42 @@
 -- Laws of messages in the lent area.
-use mathlib.Core.Path.{◌≡◌, sym, ap, ◌∙◌}
-use mathlib.Core.List.{List}
-use mathlib.Core.Bool.{Bool, true, false, ◌&&◌}
-use Prim.Native.Nat.{ℕ, ◌+◌, ◌-◌, ◌≤◌, ◌<◌, min}
+use mathlib.Core.Path.{◌≡◌, refl, sym, ap, ◌∙◌}
+use mathlib.Core.List.{List, [], ◌∷◌, ◌++◌}
+use Prim.Native.Nat.{ℕ, zero, suc, ◌-◌, ◌≤◌, min}
 use native.Mathlib.Omega.{arith}
-use lib.ListN.{length, take, drop, get_or, set, length-take, length-drop}
-use lib.Seq.{take_all, get_or-take, get_or-drop}
+use lib.ListN.{length, take, drop, replicate, length-take, length-drop}
 use lib.Dec.{ltb}
 use borrow.Author.Tests.{ltb-true, ltb-false}
+use Rattle.std.proofs.lemmas.List.{take-take, take_all, take_min, drop_all}
 use Rattle.lines.specs.Lines.{pad}
-use Rattle.lines.proofs.Laws.Logic.{by_test, and_left, and_right, never, and_in}
-use Rattle.lines.proofs.Laws.Lines.{pad_on}
+use Rattle.lines.proofs.Laws.Logic.{by_test}
+use Rattle.lines.proofs.Laws.Lines.{pad_none, pad-take}
+use Rattle.calls.specs.Messages.{message_in}
 
-module _ (area : List ℕ) (index words i : ℕ) where
-  abbrev message : List ℕ
-  message = take words (drop index area)
+-- words written over the first of n zeros
+pad_zeros : (n : ℕ) (xs : List ℕ) → length xs ≤ n → xs ++ drop (length xs) (replicate n 0) ≡ pad n xs
+unfolding pad
+pad_zeros zero [] h = refl
+pad_zeros zero (x ∷ xs) h = absurd (omega arith)
+pad_zeros (suc n) [] h = pad_none (suc n)
+pad_zeros (suc n) (x ∷ xs) h = ap {B = List ℕ} (λ r. x ∷ r) (pad_zeros n xs (omega (arith, h)))
 
-  length_message : length message ≡ min words (length area - index)
-  length_message = length-take words (drop index area) ∙ ap (min words) (length-drop index area)
-
-  -- word i is one of the message and lies in the area
-  abbrev insideb : Bool
-  insideb = ltb i words && ltb (index + i) (length area)
-
-  pub in_area : insideb ≡ true → index + i < length area
-  in_area t = ltb-true (index + i) (length area) (and_right (ltb i words) (ltb (index + i) (length area)) t)
-
-  -- a word of the message is stored behind those before it
-  pub word_in : (m : List ℕ) → m ≡ pad 16 (take i message) → i < 16 → insideb ≡ true → set m i (get_or area (index + i) 0) ≡ pad 16 (take (i + 1) message)
-  word_in m e h t =
-      let u = ltb-true i words (and_left (ltb i words) (ltb (index + i) (length area)) t) in
-      let g : get_or area (index + i) 0 ≡ get_or message i 0 = sym (get_or-take words (drop index area) i 0 u ∙ get_or-drop index area i 0) in
-      rw (e, g) (pad_on 16 message i)
-
-  -- past the message nothing is stored
-  pub word_past : insideb ≡ false → take i message ≡ take (i + 1) message
-  word_past t =
-      let l = length_message in
-      let s : length message ≤ i =
-      by_test (ltb i words)
-      (λ p. by_test (ltb (index + i) (length area))
-      (λ q. never (and_in (ltb i words) (ltb (index + i) (length area)) p q) t)
-      (λ q. let h = ltb-false (index + i) (length area) q in omega (arith, l, h)))
-      (λ p. let h = ltb-false i words p in omega (arith, l, h)) in
-      take_all i message s ∙ sym (take_all (i + 1) message (omega (arith, s)))
+-- the part of the area that a message takes, written over sixteen zeros
+pub message_copied : (area : List ℕ) (index words start count : ℕ) → start ≡ min (length area) index → count ≡ min (min words 16) (length area - start) → take count (drop start area) ++ drop count (replicate 16 0) ≡ message_in area index words
+unfolding message_in
+message_copied area index words start count s k =
+    let e : drop start area ≡ drop index area =
+    by_test (ltb index (length area))
+    (λ t. let h = ltb-true index (length area) t in let j : start ≡ index = omega (arith, h, s) in ap (λ n. drop n area) j)
+    (λ t. let h = ltb-false index (length area) t in drop_all start area (omega (arith, h, s)) ∙ sym (drop_all index area (omega (arith, h)))) in
+    let xs = drop start area in
+    let l : length xs ≡ length area - start = length-drop start area in
+    let k' : count ≡ min (min words 16) (length xs) = omega (arith, l, k) in
+    let n : length (take count xs) ≡ count = length-take count xs ∙ omega (arith, k') in
+    let q : take count xs ≡ take (min words 16) xs = ap (λ i. take i xs) k' ∙ take_min (min words 16) xs in
+    let p : take count xs ≡ take 16 (take words xs) =
+    by_test (ltb 16 words)
+    (λ t. let h = ltb-true 16 words t in let j : min words 16 ≡ 16 = omega (arith, h) in q ∙ ap (λ i. take i xs) j ∙ sym (take-take 16 words xs (omega (arith, h))))
+    (λ t. let h = ltb-false 16 words t in let j : min words 16 ≡ words = omega (arith, h) in let r = length-take words xs in q ∙ ap (λ i. take i xs) j ∙ sym (take_all 16 (take words xs) (omega (arith, h, r)))) in
+    let z : take count xs ++ drop count (replicate 16 0) ≡ pad 16 (take count xs) =
+    rw n at (pad_zeros 16 (take count xs) (omega (arith, n, k'))) in
+    z ∙ ap (pad 16) p ∙ pad-take 16 (take words xs) ∙ ap (λ (ys : List ℕ). pad 16 (take words ys)) e

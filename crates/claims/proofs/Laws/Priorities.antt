@@ -1,4 +1,5 @@
 -- What a priority change does, by the scheduler's claims.
+use Rattle.std.specs.Prelude.{Option, Some, None}
 use mathlib.Core.Path.{◌≡◌, refl, sym, ap, ◌∙◌, subst}
 use mathlib.Core.List.{List}
 use mathlib.Core.Bool.{true, false}
@@ -15,13 +16,12 @@ use Rattle.scheduler.specs.Choice.{rescheduled}
 use Rattle.scheduler.specs.Changes.{priority_changed}
 use Rattle.scheduler.proofs.Laws.Claims as Scheduler
 use Rattle.scheduler.proofs.Laws.States.{created_small}
+use Rattle.calls.specs.declared.call.Call.{Call}
 use Rattle.calls.specs.Statuses as Statuses
 use Rattle.calls.specs.Calls.{decoded, known_call}
 use Rattle.calls.specs.Chains.{priority_refusal}
 use Rattle.calls.specs.Held.{one_word}
 use Rattle.calls.specs.declared.call.Request.{Request}
-use Rattle.calls.specs.declared.call.Decoded.{Decoded}
-use Rattle.calls.specs.declared.call.Decoded.TheVariants.{Known, Unknown}
 use Rattle.kernel.specs.declared.Kernel.{Kernel}
 use Rattle.kernel.specs.declared.Answer.{Answer}
 use Rattle.kernel.specs.Tables.{thread_of, held_at, with_scheduler, with_held}
@@ -43,17 +43,17 @@ use Rattle.claims.proofs.Laws.Steps.{answer_is}
 -- ---- a call that is done
 module _ (k : Kernel) (q : Request) (messages : List ℕ) where
   -- its chain finds no reason, and its effect is carried out
-  abbrev Done : Decoded → Type 0
-  Done (Known call) = (chained k q.caller call messages ≡ 0) × (step_of k q (Known call) messages ≡ carried_out k (effect_of k call messages))
-  Done Unknown = ⊥
+  abbrev Done : Option Call → Type 0
+  Done (Some call) = (chained k q.caller call messages ≡ 0) × (step_of k q (Some call) messages ≡ carried_out k (effect_of k call messages))
+  Done None = ⊥
 
-  step_done : (x : Decoded) → Same k q.caller q.a q.b q.c q.d messages q.number x → (step_of k q x messages).status ≡ 0 → Done x
+  step_done : (x : Option Call) → Same k q.caller q.a q.b q.c q.d messages q.number x → (step_of k q x messages).status ≡ 0 → Done x
   unfolding step_of guarded refused
-  step_done (Known call) same e =
+  step_done (Some call) same e =
       by_test (eqb (reason_of k q messages) 0)
       (λ z. (sym same ∙ eqb-true (reason_of k q messages) 0 z, rw z))
       (λ z. never (eq-eqb (reason_of k q messages) 0 (rw z at e)) z)
-  step_done Unknown same e = omega (arith, e)
+  step_done None same e = omega (arith, e)
 
 -- ---- what a priority change makes of the threads and orders
 module _ (k : Kernel) (t p : ℕ) where
@@ -78,7 +78,7 @@ module _ (k : Kernel) (S : Sound k) (m : Made) (number : m.request.number ≡ 11
   q = m.request
 
   -- no reason is found, and the effect is carried out
-  abbrev Found : Decoded → Type 0
+  abbrev Found : Option Call → Type 0
   Found x = (priority_refusal (thread_of k (min q.a 32)) q.b q.caller ≡ 0) × (step_of k q x m.messages ≡ carried_out k (priority_effect k (min q.a 32) q.b))
 
   known_found : Done k q m.messages (known_call q.number q.a q.b q.c q.d) → Found (known_call q.number q.a q.b q.c q.d)
@@ -90,7 +90,7 @@ module _ (k : Kernel) (S : Sound k) (m : Made) (number : m.request.number ≡ 11
   found : Found (decoded q)
   unfolding succeedsb answer_of step decoded
   found =
-      by_choice (λ (x : Decoded). Done k q m.messages x → Found x) (ltb 2 q.caller) Unknown (known_call q.number q.a q.b q.c q.d) (λ u d. absurd d) (λ u. known_found)
+      by_choice (λ (x : Option Call). Done k q m.messages x → Found x) (ltb 2 q.caller) None (known_call q.number q.a q.b q.c q.d) (λ u d. absurd d) (λ u. known_found)
       (step_done k q m.messages (decoded q) (same_reason k q m.messages) (sym (ap (λ (y : Answer). y.status) (answer_is k S m)) ∙ eqb-true (answer k m).status 0 done))
 
   created : (thread_of k (min q.a 32)).created ≡ true

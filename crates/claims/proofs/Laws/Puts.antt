@@ -7,19 +7,18 @@ use Prim.{tt}
 use native.Mathlib.Omega.{arith}
 use lib.Dec.{eqb, ltb}
 use borrow.Author.Tests.{eqb-true}
-use Rattle.std.specs.Prelude.{if◌then◌else◌}
+use Rattle.std.specs.Prelude.{if◌then◌else◌, Option, Some, None}
 use Rattle.lines.specs.Logic.{one_if}
 use Rattle.lines.specs.Lists.{count}
 use Rattle.lines.proofs.Laws.Logic.{by_test, by_choice, never, and_left, and_right}
 use Rattle.scheduler.specs.Threads.{placedb}
 use Rattle.scheduler.proofs.Laws.Orders.{line-count}
+use Rattle.calls.specs.declared.call.Call.{Call}
 use Rattle.calls.specs.Statuses as Statuses
 use Rattle.calls.specs.Callers.{one_of}
 use Rattle.calls.specs.Calls.{decoded, known_call}
 use Rattle.calls.specs.Chains.{nobody_runsb, unless, first_of, put_refusal, ceiling_refusal}
 use Rattle.calls.specs.declared.call.Request.{Request}
-use Rattle.calls.specs.declared.call.Decoded.{Decoded}
-use Rattle.calls.specs.declared.call.Decoded.TheVariants.{Known, Unknown}
 use Rattle.waiting.specs.Fit.{semaphore_waitb}
 use Rattle.kernel.specs.declared.Kernel.{Kernel}
 use Rattle.kernel.specs.declared.Answer.{Answer}
@@ -44,9 +43,9 @@ use Rattle.claims.proofs.Laws.Served.{waiter_takes}
 -- a status that a chain does not give is not that of the call
 module _ (k : Kernel) (q : Request) (messages : List ℕ) where
   -- the chain does not say that the count has reached the largest, or the ceiling
-  abbrev Fine : Decoded → Type 0
-  Fine (Known call) = chained k q.caller call messages ≡ Statuses.ceiling_exceeded → ⊥
-  Fine Unknown = Unit {0}
+  abbrev Fine : Option Call → Type 0
+  Fine (Some call) = chained k q.caller call messages ≡ Statuses.ceiling_exceeded → ⊥
+  Fine None = Unit {0}
 
   never-status : (s : Success) → status_of s ≡ Statuses.ceiling_exceeded → ⊥
   unfolding status_of
@@ -54,12 +53,12 @@ module _ (k : Kernel) (q : Request) (messages : List ℕ) where
   never-status lifted e = omega (arith, e)
   never-status waits e = omega (arith, e)
 
-  step_fine : (x : Decoded) → Same k q.caller q.a q.b q.c q.d messages q.number x → Fine x → (step_of k q x messages).status ≡ Statuses.ceiling_exceeded → ⊥
+  step_fine : (x : Option Call) → Same k q.caller q.a q.b q.c q.d messages q.number x → Fine x → (step_of k q x messages).status ≡ Statuses.ceiling_exceeded → ⊥
   unfolding step_of guarded refused carried_out
-  step_fine (Known call) same fine =
+  step_fine (Some call) same fine =
       by_choice (λ (o : Outcome). o.status ≡ Statuses.ceiling_exceeded → ⊥) (eqb (reason_of k q messages) 0) (carried_out k (effect_of k call messages)) (refused k (reason_of k q messages))
       (λ z. never-status (effect_of k call messages).success) (λ z e. fine (sym same ∙ e))
-  step_fine Unknown same fine = λ e. omega (arith, e)
+  step_fine None same fine = λ e. omega (arith, e)
 
 module _ (k : Kernel) (S : Sound k) (n t : ℕ) (here : 0 < count t (waiters_of semaphore n k)) where
   placed : placedb (place_of semaphore n) (thread_of k t) ≡ true
@@ -119,5 +118,5 @@ module _ (k : Kernel) (S : Sound k) (n t : ℕ) (here : 0 < count t (waiters_of 
     unfolding answer_of step decoded
     never_full_lem e =
         step_fine k q m.messages (decoded q) (same_reason k q m.messages)
-        (by_choice (Fine k q m.messages) (ltb 2 q.caller) Unknown (known_call q.number q.a q.b q.c q.d) (λ u. tt) (λ u. known_fine))
+        (by_choice (Fine k q m.messages) (ltb 2 q.caller) None (known_call q.number q.a q.b q.c q.d) (λ u. tt) (λ u. known_fine))
         (sym (ap (λ (y : Answer). y.status) (answer_is k S m)) ∙ e)

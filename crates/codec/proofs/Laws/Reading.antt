@@ -1,13 +1,12 @@
--- Tables that are read from a block record by record, and bytes that are copied one by one.
+-- Tables that are read from a block record by record.
 use mathlib.Core.Path.{◌≡◌, refl, sym, ap, ◌∙◌}
 use mathlib.Core.List.{List, [], ◌∷◌, ◌++◌, map}
 use Prim.Native.Nat.{ℕ, zero, suc, ◌+◌, ◌-◌, ◌*◌, ◌≤◌, ◌<◌}
 use native.Mathlib.Omega.{arith}
 use native.Mathlib.Numerals.{add-one}
 use native.Mathlib.Nat.{mul-suc, mul-le-mul_left}
-use lib.ListN.{length, take, drop, get_or, set, length-set, length-drop}
-use lib.Seq.{take_all, take-suc, take-suc-set, length-take-le}
-use borrow.Author.Rules.{rules}
+use lib.ListN.{length, take, drop, set, length-set, length-drop}
+use lib.Seq.{take_all, take-suc-set, length-take-le}
 use Rattle.lines.specs.Lists.{numbers_from}
 use Rattle.codec.specs.Blocks.{part, table_of}
 
@@ -72,34 +71,5 @@ module _ {A : Type 0} (read : List ℕ → A) (size n : ℕ) (b : List ℕ) wher
   pub record_size : (l : List A) (i : ℕ) → Read read size n b l i → i < n → length (take (size * i + size - size * i) (drop (size * i) b)) ≡ size
   record_size l i r h = range_size b size n i h r.whole
 
--- what proves each need of a loop that reads a table: `search reads`
-pub ruleset reads = (rules, read_none, read_more, read_all, record_size)
-
--- ---- bytes that are copied one by one
--- the first i of n bytes of b are copied to l
-pub record Copied (n : ℕ) (b l : List ℕ) (i : ℕ) : Type 0 where
-  pub within : i ≤ n
-  pub long : length l ≡ n
-  pub whole : length b ≡ n
-  pub front : take i l ≡ take i b
-
-module _ (n : ℕ) (b l : List ℕ) where
-  pub copied_none : length l ≡ n → length b ≡ n → Copied n b l 0
-  copied_none h k = record { within = omega arith; long = h; whole = k; front = refl }
-
-  -- one more byte
-  pub copied_more : (i : ℕ) → Copied n b l i → i < n → Copied n b (set l i (get_or b i 0)) (i + 1)
-  copied_more i r h =
-      record {
-        within = omega arith;
-        long = simp length-set r.long;
-        whole = r.whole;
-        front = rw add-one (take-suc-set l i (get_or b i 0) (omega arith) ∙ ap (λ (k : List ℕ). k ++ (get_or b i 0 ∷ [])) r.front ∙ sym (take-suc b i 0 (omega arith)));
-      }
-
-  -- all bytes
-  pub copied_all : (i : ℕ) → Copied n b l i → n ≤ i → l ≡ b
-  copied_all i r h = sym (take_all i l (omega arith)) ∙ r.front ∙ take_all i b (omega arith)
-
--- the same for a loop that copies bytes
-pub ruleset copies = (rules, copied_none, copied_more, copied_all)
+-- what proves each need of a loop that reads a table
+pub ruleset reads = (read_none, read_more, read_all, record_size)

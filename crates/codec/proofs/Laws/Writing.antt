@@ -1,21 +1,16 @@
 -- Blocks that are written from front to end: bytes and parts one behind the other, and tables record by record.
 use mathlib.Core.Path.{◌≡◌, refl, sym, ap, ◌∙◌}
 use mathlib.Core.List.{List, [], ◌∷◌, ◌++◌, append_assoc, append-nil}
+use mathlib.Core.Bool.{Bool, true, false}
 use Prim.Native.Nat.{ℕ, suc, ◌+◌, ◌-◌, ◌*◌, ◌≤◌, ◌<◌}
 use native.Mathlib.Omega.{arith}
 use native.Mathlib.Numerals.{add-one}
 use native.Mathlib.Nat.{mul-suc}
-use lib.Dec.{lit≤}
 use lib.ListN.{length, take, drop, get_or, set, length-append, length-set, length-drop, take-append-drop}
-use lib.Seq.{take_all, take_at, take-suc, take-suc-set, drop-length, length-take-le, length_front, sets, sets-eq}
-use borrow.Author.Rules.{rules, set_long}
-use Rattle.scheduler.proofs.Laws.Threads.{length_mapped}
-use Rattle.codec.specs.Blocks.{all_bytes}
+use lib.Seq.{take_all, take_at, take-suc, take-suc-set, length-take-le, length_front}
+use Rattle.std.specs.Int.{from_bool}
+use Rattle.codec.specs.Blocks.{flag_byte, all_bytes}
 use Rattle.codec.proofs.Laws.Reading.{record_end, range_size}
-
--- a block whose bytes are all stored, one by one
-pub stored : (b vs : List ℕ) → length b ≡ length vs → sets b 0 vs ≡ vs
-stored b vs h = sets-eq vs b 0 (omega arith) ∙ ap (λ (r : List ℕ). vs ++ r) (ap (λ (k : ℕ). drop k b) (let e : 0 + length vs ≡ length b = omega arith in e) ∙ drop-length b) ∙ append-nil vs
 
 -- ---- a part ys of k bytes, written from byte n on
 module _ (b ys : List ℕ) (n k : ℕ) where
@@ -57,19 +52,11 @@ module _ (b total : List ℕ) where
       ∙ append_assoc (take n b) (x ∷ []) rest
       ∙ e
 
--- equal parts and bytes, one behind the other
-pub same_join : (xs vs ys ws : List ℕ) → xs ≡ vs → ys ≡ ws → xs ++ ys ≡ vs ++ ws
-same_join xs vs ys ws e f = λ j. e j ++ f j
-
-pub same_next : (x v : ℕ) (ys ws : List ℕ) → x ≡ v → ys ≡ ws → x ∷ ys ≡ v ∷ ws
-same_next x v ys ws e f = λ j. e j ∷ f j
-
--- a block of a known length has room for what is written to it
-pub room : (size : ℕ) (b : List ℕ) (m : ℕ) → length b ≡ size → m ≤ size → m ≤ length b
-room size b m h k = omega arith
-
--- what finds the bytes and the length of a written block; beside it stand `room` with the block's length, and what the calls ensure
-pub ruleset fills = (last-part, part_before, byte_before, same_join, same_next, kept-part, length_front, set_long, lit≤, tt)
+-- a flag as the library makes a byte of it
+from_flag : (v : Bool) → from_bool v ≡ flag_byte v
+unfolding flag_byte
+from_flag true = refl
+from_flag false = refl
 
 -- ---- the same from the front on, for blocks of many parts: the first n bytes of b with any rest behind them are f of that rest
 pub record Done (f : List ℕ → List ℕ) (size : ℕ) (b : List ℕ) (n : ℕ) : Type 0 where
@@ -85,6 +72,10 @@ module _ {f : List ℕ → List ℕ} {size : ℕ} {b : List ℕ} {n : ℕ} (d : 
   pub byte_done : {x v : ℕ} → x ≡ v → n < size → Done (λ (r : List ℕ). f (v ∷ r)) size (set b n x) (n + 1)
   byte_done {x} {v} e l =
       record { long = simp length-set d.long; front = λ rest. byte_before b _ rest x n (n + 1) refl (let h = d.long in omega arith) (d.front (x ∷ rest) ∙ ap (λ (y : ℕ). f (y ∷ rest)) e) }
+
+  -- a flag more
+  pub flag_done : {x : ℕ} (v : Bool) → x ≡ from_bool v → n < size → Done (λ (r : List ℕ). f (flag_byte v ∷ r)) size (set b n x) (n + 1)
+  flag_done v e l = byte_done (e ∙ from_flag v) l
 
   -- a part more
   pub part_done : {ys vs : List ℕ} → ys ≡ vs → (k : ℕ) → n + k ≤ size → length ys ≡ length (take k (drop n b)) → Done (λ (r : List ℕ). f (vs ++ r)) size (take n b ++ (ys ++ drop k (drop n b))) (n + k)
@@ -147,5 +138,5 @@ module _ {A : Type 0} (write : A → List ℕ) (size n : ℕ) (xs : List A) (b :
   pub put_size : (i : ℕ) → Put write size n xs b i → i < n → length (take (size * i + size - size * i) (drop (size * i) b)) ≡ size
   put_size i r h = range_size b size n i h r.whole
 
--- what proves each need of a loop that writes a table: `search puts`
-pub ruleset puts = (rules, length_mapped, put_none, put_more, put_all, put_size)
+-- what proves each need of a loop that writes a table
+pub ruleset puts = (put_none, put_more, put_all, put_size)

@@ -4,4 +4,4 @@ use Rattle.inspect.proofs.put_arguments.Goals as goal
 
 pub returns : goal.returns
 unfolding arguments_text
-returns g c = put-append (put-append (put-append c.put_field-at.ensures c.put_field-at-2.ensures) c.put_field-at-3.ensures) c.put_field.ensures
+returns g c = put-append (put-append (put-append c.put_field.ensures c.put_field-2.ensures) c.put_field-3.ensures) c.put_field-4.ensures

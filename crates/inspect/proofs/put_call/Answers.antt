@@ -4,4 +4,5 @@ use Rattle.inspect.proofs.put_call.Goals as goal
 
 pub returns : goal.returns
 unfolding call_text
-returns g c = put-append (put-append (put-append (put-append c.put_field-at.ensures c.put_field-at-2.ensures) c.put_field-at-3.ensures) c.put_arguments-at.ensures) c.put_byte.ensures
+returns g c =
+    put-append (put-append (put-append (put-append c.put_field.ensures c.put_field-2.ensures) c.put_field-3.ensures) c.put_arguments.ensures) c.put_byte.ensures

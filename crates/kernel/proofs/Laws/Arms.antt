@@ -3,18 +3,20 @@ use mathlib.Core.Path.{◌≡◌, sym, ap, ◌∙◌, subst}
 use mathlib.Core.List.{List}
 use mathlib.Core.Bool.{Bool, true, false, not}
 use Prim.Native.Nat.{ℕ}
+use native.Mathlib.Omega.{arith}
 use lib.ListN.{length}
 use borrow.Author.Tests.{not-true, not-false}
-use Rattle.std.specs.Prelude.{if◌then◌else◌}
+use Rattle.std.specs.Prelude.{if◌then◌else◌, Option, Some, None}
 use Rattle.scheduler.specs.declared.Scheduler.{Scheduler}
 use Rattle.scheduler.specs.Choice.{rescheduled}
 use Rattle.calls.specs.Calls.{decoded}
 use Rattle.calls.specs.Held.{no_words}
 use Rattle.calls.specs.Statuses as Statuses
+use Rattle.calls.specs.declared.refusal.Refusal.{Refusal}
+use Rattle.calls.specs.Refusals as Reasons
+use Rattle.calls.proofs.Laws.Refusals.{status_above}
 use Rattle.calls.specs.declared.call.Request.{Request}
 use Rattle.calls.specs.declared.call.Call.{Call}
-use Rattle.calls.specs.declared.call.Decoded.{Decoded}
-use Rattle.calls.specs.declared.call.Decoded.TheVariants.{Known, Unknown}
 use Rattle.kernel.specs.declared.Kernel.{Kernel}
 use Rattle.kernel.specs.declared.Answer.{Answer}
 use Rattle.kernel.specs.Tables.{runner_of, with_scheduler}
@@ -42,17 +44,17 @@ module _ (k : Kernel) (q : Request) (ms : List ℕ) where
   on_sound {s} e f = rw (← e, not-false s f)
 
   -- the step, by what the request is for: nothing known; or a call, refused or carried out as the code's chain says
-  module _ {r : Decoded} (e : r ≡ decoded q) where
-    pub on_unknown : r ≡ Unknown → refused k Statuses.unknown_call ≡ step k q ms
+  module _ {r : Option Call} (e : r ≡ decoded q) where
+    pub on_unknown : r ≡ None → refused k Statuses.unknown_call ≡ step k q ms
     unfolding step step_of
     on_unknown u = rw (← e, u)
 
-    pub on_known : {x : Call} → r ≡ Known x → guarded k (chained k q.caller x ms) (effect_of k x ms) ≡ step k q ms
+    pub on_known : {x : Call} → r ≡ Some x → guarded k (chained k q.caller x ms) (effect_of k x ms) ≡ step k q ms
     unfolding step step_of
     on_known {x} u = known (decoded q) (sym (sym e ∙ u)) (same_reason k q ms)
       where
-        known : (y : Decoded) → Known x ≡ y → Same k q.caller q.a q.b q.c q.d ms q.number y → guarded k (chained k q.caller x ms) (effect_of k x ms) ≡ step_of k q y ms
-        known y h = subst (λ (z : Decoded). Same k q.caller q.a q.b q.c q.d ms q.number z → guarded k (chained k q.caller x ms) (effect_of k x ms) ≡ step_of k q z ms) h
+        known : (y : Option Call) → Some x ≡ y → Same k q.caller q.a q.b q.c q.d ms q.number y → guarded k (chained k q.caller x ms) (effect_of k x ms) ≡ step_of k q y ms
+        known y h = subst (λ (z : Option Call). Same k q.caller q.a q.b q.c q.d ms q.number z → guarded k (chained k q.caller x ms) (effect_of k x ms) ≡ step_of k q z ms) h
             (λ w. ap (λ (i : ℕ). guarded k i (effect_of k x ms)) (sym w))
 
 -- a caller is there: a step's outcome is that of the call's own chain
@@ -64,10 +66,11 @@ on-served k caller ms {y = y} n e =
     ∙ ap (λ (z : Call). guarded k (if nobody_runsb caller (runner_of k) then Statuses.nobody_runs else chain_of k caller z ms) (effect_of k z ms)) (sym e)
 
 -- ---- services
--- a service that finds a reason is refused for it
-pub refused_by : (k : Kernel) {found reason : ℕ} (e : Effect) {r : Answer}
-    → r ≡ answer_of (refused k found) → found ≡ reason → (found ≡ 0 → ⊥) → r ≡ answer_of (guarded k reason e)
-refused_by k {reason = reason} e p q n = p ∙ ap answer_of (ap (refused k) q ∙ sym (is-refused k reason e (λ w. n (q ∙ w))))
+-- a service that is refused for a reason is refused for the first that holds, whose status is not 0
+pub refused_by : (k : Kernel) {found reason : ℕ} (e : Effect) (why : Refusal) {r : Answer}
+    → r ≡ answer_of (refused k found) → found ≡ Reasons.status_of why → Reasons.status_of why ≡ reason → r ≡ answer_of (guarded k reason e)
+refused_by k {reason = reason} e why p q z =
+    p ∙ ap answer_of (ap (refused k) (q ∙ z) ∙ sym (is-refused k reason e (λ w. let h = status_above why in absurd (omega (arith, h, z, w)))))
 
 -- a service that is done has carried out edits, and so many waits have ended as they end
 pub carried_as : (k self : Kernel) (s : Scheduler) {n : ℕ} (es : List Edit) → with_scheduler self s ≡ applied k es → n ≡ length (movers endsb es) → answered self s 0 no_words n ≡ answer_of (carried_out k (does es))

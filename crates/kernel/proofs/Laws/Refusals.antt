@@ -7,16 +7,15 @@ use native.Mathlib.Omega.{arith}
 use lib.Dec.{eqb, ltb, leb}
 use lib.ListN.{length}
 use borrow.Author.Tests.{eqb-false, ltb-true, ltb-false, le-leb, lt-leb, ne_eqb, eq-eqb, not-true}
-use Rattle.std.specs.Prelude.{if◌then◌else◌}
+use Rattle.std.specs.Prelude.{if◌then◌else◌, Option, Some, None}
 use Rattle.lines.proofs.Laws.Logic.{by_test, by_choice, and_left, and_right}
 use Rattle.scheduler.specs.Threads.{finishedb}
+use Rattle.calls.specs.declared.call.Call.{Call}
 use Rattle.calls.specs.Callers.{allowedb}
 use Rattle.calls.specs.Calls.{decoded, known_call}
 use Rattle.calls.specs.Chains
 use Rattle.calls.specs.Statuses as Statuses
 use Rattle.calls.specs.declared.call.Request.{Request}
-use Rattle.calls.specs.declared.call.Decoded.{Decoded}
-use Rattle.calls.specs.declared.call.Decoded.TheVariants.{Known, Unknown}
 use Rattle.calls.proofs.Laws.Calls.{by_number}
 use Rattle.kernel.specs.declared.Kernel.{Kernel}
 use Rattle.objects.specs.Semaphores.{largest_count}
@@ -107,9 +106,9 @@ module _ (k : Kernel) (caller a b c d : ℕ) (messages : List ℕ) where
   request n = record { number = n; caller = caller; a = a; b = b; c = c; d = d }
 
   -- the table and the chain give the same reason
-  abbrev pub Same : ℕ → Decoded → Type 0
-  Same n (Known call) = reason_of k (request n) messages ≡ chained k caller call messages
-  Same n Unknown = Unit {0}
+  abbrev pub Same : ℕ → Option Call → Type 0
+  Same n (Some call) = reason_of k (request n) messages ≡ chained k caller call messages
+  Same n None = Unit {0}
 
   -- the first row is the same for all
   known : (r c : ℕ) → r ≡ c → (if nobody_runsb caller (runner_of k) then Statuses.nobody_runs else r) ≡ (if nobody_runsb caller (runner_of k) then Statuses.nobody_runs else c)
@@ -163,7 +162,7 @@ module _ (k : Kernel) (caller a b c d : ℕ) (messages : List ℕ) where
 pub same_reason : (k : Kernel) (q : Request) (messages : List ℕ) → Same k q.caller q.a q.b q.c q.d messages q.number (decoded q)
 unfolding decoded
 same_reason k q messages =
-    by_choice (Same k q.caller q.a q.b q.c q.d messages q.number) (ltb 2 q.caller) Unknown (known_call q.number q.a q.b q.c q.d)
+    by_choice (Same k q.caller q.a q.b q.c q.d messages q.number) (ltb 2 q.caller) None (known_call q.number q.a q.b q.c q.d)
     (λ e. tt) (λ e. known_same k q.caller q.a q.b q.c q.d messages q.number)
 
 -- ---- what holds of the statuses of all rows holds of a reason

@@ -5,13 +5,12 @@ use mathlib.Core.Bool.{Bool, true, false, ◌&&◌, not}
 use Prim.Native.Nat.{ℕ, ◌<◌, min}
 use lib.Dec.{eqb, ltb}
 use borrow.Author.Tests.{ltb-true, not-false}
-use Rattle.std.specs.Prelude.{if◌then◌else◌}
+use Rattle.std.specs.Prelude.{if◌then◌else◌, Option, Some, None}
 use Rattle.lines.proofs.Laws.Logic.{by_choice}
+use Rattle.calls.specs.declared.call.Call.{Call}
 use Rattle.calls.specs.Calls.{decoded, known_call}
 use Rattle.calls.specs.Statuses as Statuses
 use Rattle.calls.specs.declared.call.Request.{Request}
-use Rattle.calls.specs.declared.call.Decoded.{Decoded}
-use Rattle.calls.specs.declared.call.Decoded.TheVariants.{Known, Unknown}
 use Rattle.calls.proofs.Laws.Calls.{by_number}
 use Rattle.kernel.specs.declared.Kernel.{Kernel}
 use Rattle.kernel.specs.Tables.{runner_of}
@@ -36,9 +35,9 @@ use Rattle.kernel.proofs.Laws.Calls.Pools
 
 module _ (k : Kernel) (caller a b c d : ℕ) (messages : List ℕ) where
   -- a known call of number n does what its theorem says
-  abbrev By : ℕ → Decoded → Type 0
-  By n (Known call) = Does.Acts k caller n (min a (limit_of n)) b c messages (chain_of k caller call messages) (effect_of k call messages)
-  By n Unknown = Unit {0}
+  abbrev By : ℕ → Option Call → Type 0
+  By n (Some call) = Does.Acts k caller n (min a (limit_of n)) b c messages (chain_of k caller call messages) (effect_of k call messages)
+  By n None = Unit {0}
 
   -- the calls one by one: the only place in these laws that goes through all of them
   known-does : (n : ℕ) → By n (known_call n a b c d)
@@ -85,8 +84,8 @@ module _ (k : Kernel) (caller a b c d : ℕ) (messages : List ℕ) where
       by_number By n 39 _ _ (Does.itself (Threads.words-does k b c messages caller (min a 32))) (
       tt)))))))))))))))))))))))))))))))))))))))
 
-  decoded-does : (n : ℕ) → By n (if ltb 2 caller then Unknown else known_call n a b c d)
-  decoded-does n = by_choice (By n) (ltb 2 caller) Unknown (known_call n a b c d) (λ e. tt) (λ e. known-does n)
+  decoded-does : (n : ℕ) → By n (if ltb 2 caller then None else known_call n a b c d)
+  decoded-does n = by_choice (By n) (ltb 2 caller) None (known_call n a b c d) (λ e. tt) (λ e. known-does n)
 
 -- who is not refused for want of a runner has one, where a thread calls
 runner_there : (k : Kernel) (caller : ℕ) → nobody_runsb caller (runner_of k) ≡ false → eqb caller 2 ≡ true → runner_of k < 32
@@ -98,15 +97,15 @@ module _ (k : Kernel) (q : Request) (messages : List ℕ) where
   abbrev Stepped : Outcome → Type 0
   Stepped = Does.Step k q.number (min q.a (limit_of q.number)) q.b q.c messages
 
-  request-does : Sound k → (x : Decoded) → Same k q.caller q.a q.b q.c q.d messages q.number x
+  request-does : Sound k → (x : Option Call) → Same k q.caller q.a q.b q.c q.d messages q.number x
       → By k q.caller q.a q.b q.c q.d messages q.number x → Stepped (step_of k q x messages)
   unfolding step_of chained guarded
-  request-does S (Known call) e D =
+  request-does S (Some call) e D =
       subst (λ (r : ℕ). Stepped (guarded k r (effect_of k call messages))) (sym e)
       (by_choice (λ (r : ℕ). Stepped (guarded k r (effect_of k call messages))) (nobody_runsb q.caller (runner_of k)) Statuses.nobody_runs (chain_of k q.caller call messages)
       (λ e. Does.refuses Statuses.nobody_runs refl refl)
       (λ e. Does.step-of k S q.caller q.number (min q.a (limit_of q.number)) q.b q.c messages (chain_of k q.caller call messages) (effect_of k call messages) (runner_there k q.caller e) D))
-  request-does S Unknown e D = Does.refuses Statuses.unknown_call refl refl
+  request-does S None e D = Does.refuses Statuses.unknown_call refl refl
 
   -- on sound tables a call is refused, or carries out a proper effect
   pub step-does : Sound k → Stepped (step k q messages)
@@ -114,20 +113,20 @@ module _ (k : Kernel) (q : Request) (messages : List ℕ) where
   step-does S = request-does S (decoded q) (same_reason k q messages) (decoded-does k q.caller q.a q.b q.c q.d messages q.number)
 
   -- on any tables a refused call changes nothing
-  request-refused : (x : Decoded) → doneb (step_of k q x messages).status ≡ false → Unchanged k (answer_of (step_of k q x messages))
+  request-refused : (x : Option Call) → doneb (step_of k q x messages).status ≡ false → Unchanged k (answer_of (step_of k q x messages))
   unfolding step_of refused answer_of
-  request-refused (Known call) = Does.guarded-refused k (reason_of k q messages) (effect_of k call messages) (reason_known k q messages)
-  request-refused Unknown = λ u. record { kernel = refl; words = refl; ended = refl; next = refl }
+  request-refused (Some call) = Does.guarded-refused k (reason_of k q messages) (effect_of k call messages) (reason_known k q messages)
+  request-refused None = λ u. record { kernel = refl; words = refl; ended = refl; next = refl }
 
   pub step-refused : doneb (step k q messages).status ≡ false → Unchanged k (answer_of (step k q messages))
   unfolding step
   step-refused = request-refused (decoded q)
 
   -- and a step gives no 0x100
-  request_known : (x : Decoded) → eqb (step_of k q x messages).status Statuses.tables_unsound ≡ false
+  request_known : (x : Option Call) → eqb (step_of k q x messages).status Statuses.tables_unsound ≡ false
   unfolding step_of refused
-  request_known (Known call) = Does.guarded_known k (reason_of k q messages) (effect_of k call messages) (reason_known k q messages)
-  request_known Unknown = refl
+  request_known (Some call) = Does.guarded_known k (reason_of k q messages) (effect_of k call messages) (reason_known k q messages)
+  request_known None = refl
 
   pub step_known : eqb (step k q messages).status Statuses.tables_unsound ≡ false
   unfolding step

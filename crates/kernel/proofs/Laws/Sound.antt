@@ -1,14 +1,13 @@
 -- The test of soundness holds exactly of sound tables; what the test finds, thread by thread.
-use mathlib.Core.Path.{◌≡◌, refl, sym, ap, ap₂, ◌∙◌}
-use mathlib.Core.Bool.{Bool, true, false, ◌&&◌, and-true, and-false}
-use Prim.Native.Nat.{ℕ, ◌+◌, ◌<◌, ◌≤◌}
-use native.Mathlib.Omega.{arith}
-use lib.ListN.{length, get_or-eq_default}
-use borrow.Author.Tests.{eqb-true}
+use mathlib.Core.Path.{◌≡◌, refl, ap₂, ◌∙◌}
+use mathlib.Core.Bool.{Bool, true, false, not, ◌&&◌, and-true, and-false}
+use Prim.Native.Nat.{ℕ, ◌+◌, ◌<◌}
+use lib.ListN.{length}
+use borrow.Author.Tests.{ne_eqb, not-false}
 use Rattle.lines.specs.Logic.{one_if, implies, all_below}
 use Rattle.lines.specs.Lists.{filter, count, below, first, first_with, leastb, best_of}
 use Rattle.lines.specs.Lines.{members, pad, line_of, cleanb}
-use Rattle.lines.proofs.Laws.Logic.{by_test, never, and_left, and_right, and_in, implies_out, implies_in, all-at, all_in, all_more}
+use Rattle.lines.proofs.Laws.Logic.{and_left, and_right, and_in, implies_out, implies_in, all-at, all_in, all_more}
 use Rattle.scheduler.specs.declared.thread.Thread.{Thread}
 use Rattle.scheduler.specs.Threads.{uncreated, readyb, waitsb, sleepsb, pausedb, standsb}
 use Rattle.scheduler.specs.Orders as Orders
@@ -22,34 +21,18 @@ use Rattle.objects.specs.Groups.{no_group}
 use Rattle.blocks.specs.Pools.{no_pool, pool_zerob, pool_fitb}
 use Rattle.calls.specs.declared.held.Held.{Held}
 use Rattle.calls.specs.Held.{holding, held_words, message_of}
-use Rattle.waiting.proofs.Laws.Fit.{waits_nowhere, resting, unheld, paused}
-use Rattle.waiting.specs.Fit.{blank_from, waits_onb, sendsb, status_fitb, words_fitb, sender_fitb, request_fitb, unheld_fitb, held_fitb, resting_fitb, held_zerob, paused_fitb, semaphores_fitb, queues_fitb, groups_fitb, pools_fitb}
+use Rattle.waiting.specs.Fit.{blank_from, waits_onb, sendsb, status_fitb, words_fitb, sender_fitb, request_fitb, unheld_fitb, held_fitb, semaphores_fitb, queues_fitb, groups_fitb, pools_fitb}
 use Rattle.kernel.specs.declared.Kernel.{Kernel}
 use Rattle.kernel.specs.Tables.{started, thread_of, held_at, semaphore_at, queue_at, group_at, pool_at}
-use Rattle.kernel.specs.Kinds.{Kind, Object, size_of, state_on, table_of, object_at, no_object, record_fitb, waitb}
+use Rattle.kernel.specs.Kinds.{Kind, size_of, state_on, table_of, object_at, record_fitb, waitb}
 use Rattle.kernel.specs.Kinds.Kind.{semaphore, queue, group, pool}
+use Rattle.kernel.specs.Loops.{asks_fitb}
 use Rattle.kernel.specs.Sound.{wait_fitb, soundb, Sized, MayWait, Sound}
-use Rattle.kernel.proofs.Laws.Objects
 use Rattle.kernel.proofs.Laws.Objects.{by_kind}
-use Rattle.kernel.proofs.Laws.Fits
 
 -- ---- one thread more of a test of all
 pub one_more : (f : ℕ → Bool) (t : ℕ) (ok b : Bool) → ok ≡ all_below t f → b ≡ f t → (ok && b) ≡ all_below (t + 1) f
 one_more f t ok b p q = ap₂ ◌&&◌ p q ∙ all_more f t
-
-pub none_more : (f : ℕ → Bool) (t : ℕ) (ok : Bool) → ok ≡ all_below t f → f t ≡ true → ok ≡ all_below (t + 1) f
-none_more f t ok p q = sym (and-true ok) ∙ one_more f t ok true p (sym q)
-
-pub past_more : (f : ℕ → Bool) (t : ℕ) → f t ≡ false → false ≡ all_below (t + 1) f
-past_more f t q = sym (and-false (all_below t f)) ∙ one_more f t (all_below t f) false refl (sym q)
-
--- ---- a test of two parts, where the first holds, is the second
-pub and-rest : {a b c : Bool} → c ≡ (a && b) → a ≡ true → c ≡ b
-and-rest {b = b} e h = e ∙ ap (λ (x : Bool). x && b) h
-
--- ---- a number against the size of a table
-pub outside : {n m l : ℕ} → m ≤ n → l ≡ m → l ≤ n
-outside h e = omega arith
 
 -- ---- what is asked of the object that a thread waits on, kind by kind
 module _ (k : Kernel) (t : ℕ) where
@@ -68,46 +51,22 @@ module _ (k : Kernel) (t : ℕ) where
   unfolding wait_fitb
   asks W = and_in _ _ (and_in _ _ (and_in _ _ (implies_in _ _ (W queue)) (implies_in _ _ (W semaphore))) (implies_in _ _ (W group))) (implies_in _ _ (W pool))
 
-  -- for one who waits on an object the test is that object's
-  on_kind : (d : Kind) → waits_onb (state_on d) (thread_of k t) ≡ true → wait_fitb k t ≡ waitb d (held_at k t) (object_at d k (thread_of k t).object)
-  unfolding waits_onb
-  on_kind d w =
-      let th = thread_of k t in
-      by_test (waitb d (held_at k t) (object_at d k th.object))
-      (λ y. asks (Fits.wait_on k th (held_at k t) d (eqb-true th.state (state_on d) (and_right th.created _ w)) y) ∙ sym y)
-      (λ y. by_test (wait_fitb k t) (λ z. never (asked z d w) y) (λ z. z) ∙ sym y)
+-- ---- the same of a record and what it holds, as the code asks it: by the state
+module _ (k : Kernel) (th : Thread) (h : Held) where
+  pub asks_object : (d : Kind) → not th.created ≡ false → th.state ≡ state_on d → asks_fitb k th h ≡ waitb d h (object_at d k th.object)
+  unfolding asks_fitb waits_onb implies
+  asks_object d made e =
+      let m = not-false th.created made in
+      by_kind (λ d. th.state ≡ state_on d → asks_fitb k th h ≡ waitb d h (object_at d k th.object))
+      (λ e. rw (m, e) (simp and-true)) (λ e. rw (m, e) (simp and-true)) (λ e. rw (m, e) (simp and-true)) (λ e. rw (m, e)) d e
 
--- ---- the same of a thread, its held things and its object as a loop reads them
-module _ (k : Kernel) (t : ℕ) (th : Thread) (e : th ≡ thread_of k t) where
-  abbrev on : ℕ → Bool → Type 0
-  on state b = waits_onb state th ≡ b
+  pub asks_none : th.created ≡ false → true ≡ asks_fitb k th h
+  unfolding asks_fitb waits_onb implies
+  asks_none e = rw e
 
-  abbrev kept : (state : ℕ) (b : Bool) → on state b → waits_onb state (thread_of k t) ≡ b
-  kept state b w = sym (ap (waits_onb state) e) ∙ w
-
-  pub waits_none : ((d : Kind) → on (state_on d) false) → wait_fitb k t ≡ true
-  waits_none h = asks k t (λ d w. never w (kept (state_on d) false (h d)))
-
-  -- who neither waits nor sleeps
-  pub waits-rest : pausedb th ≡ false → wait_fitb k t ≡ true
-  waits-rest p = waits_none (λ d. waits_nowhere (state_on d) th (Objects.state_low d) p)
-
-  -- what the thread holds, by what it does
-  pub paused_read : (h : Held) → h ≡ held_at k t → (b : Bool) → b ≡ paused_fitb th h → pausedb th ≡ true → b ≡ held_fitb (thread_of k t) (held_at k t)
-  paused_read h d b f p = f ∙ sym (paused h th p) ∙ ap₂ held_fitb e d
-
-  pub resting_read : (h : Held) → h ≡ held_at k t → (b : Bool) → b ≡ resting_fitb h → th.created ≡ true → pausedb th ≡ false → b ≡ held_fitb (thread_of k t) (held_at k t)
-  resting_read h d b f made p = f ∙ sym (resting h th p made) ∙ ap₂ held_fitb e d
-
-  pub unheld_read : (h : Held) → h ≡ held_at k t → (b : Bool) → b ≡ held_zerob h → th.created ≡ false → b ≡ held_fitb (thread_of k t) (held_at k t)
-  unheld_read h d b f u = f ∙ sym (unheld h th u) ∙ ap₂ held_fitb e d
-
-  pub waits-object : (d : Kind) (h : Held) (x : Object d) → h ≡ held_at k t → x ≡ object_at d k th.object → on (state_on d) true → waitb d h x ≡ wait_fitb k t
-  waits-object d h x p q w = ap₂ (waitb d) p (q ∙ ap (λ (r : Thread). object_at d k r.object) e) ∙ sym (on_kind k t d (kept (state_on d) true w))
-
-  -- past its table an object is not created
-  pub past_objects : (d : Kind) → length (table_of d k) ≤ th.object → on (state_on d) true → wait_fitb k t ≡ false
-  past_objects d o w = sym (waits-object d (held_at k t) (no_object d) refl (sym (Objects.object_is d k th.object ∙ get_or-eq_default (table_of d k) (no_object d) o)) w) ∙ Objects.none-waits d (held_at k t)
+  pub asks-other : (th.state ≡ 5 → ⊥) → (th.state ≡ 6 → ⊥) → (th.state ≡ 7 → ⊥) → (th.state ≡ 8 → ⊥) → true ≡ asks_fitb k th h
+  unfolding asks_fitb waits_onb implies
+  asks-other q s g p = rw (ne_eqb _ 5 q, ne_eqb _ 6 s, ne_eqb _ 7 g, ne_eqb _ 8 p) (simp (and-false))
 
 -- ---- the test and soundness
 module _ (k : Kernel) where

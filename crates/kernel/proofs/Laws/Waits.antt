@@ -3,12 +3,13 @@ use mathlib.Core.Path.{◌≡◌, refl, sym, ap, ◌∙◌}
 use mathlib.Core.List.{List, [], ◌∷◌, ◌++◌, append-nil}
 use mathlib.Core.Bool.{Bool, true, false}
 use Prim.Native.Nat.{ℕ, ◌+◌, ◌<◌}
-use lib.ListN.{length, take, get_or, length-set}
+use lib.ListN.{length, take, get_or, set, length-set}
 use Rattle.lines.proofs.Laws.Lines.{take_one}
 use Rattle.scheduler.specs.declared.Scheduler.{Scheduler}
 use Rattle.scheduler.specs.Threads.{awake}
 use Rattle.scheduler.specs.Orders.{thread_at, with_thread, with_order, moved, joined, woken}
 use Rattle.scheduler.specs.Choice.{rescheduled}
+use Rattle.calls.specs.declared.held.Held.{Held}
 use Rattle.calls.specs.Held.{no_words, holding}
 use Rattle.kernel.specs.declared.Kernel.{Kernel}
 use Rattle.kernel.specs.Tables.{held_at, with_scheduler, with_held, with_semaphore, with_queue, with_group, with_pool}
@@ -28,8 +29,8 @@ module _ (c : Cause) (words : List ℕ) where
   each_last k [] t = refl
   each_last k (x ∷ xs) t = each_last (edited k (moves x (ends c words))) xs t
 
-  -- one slot more of a line, in a loop that keeps the scheduler beside the tables
-  pub each_step : (k self : Kernel) (s : Scheduler) (status : ℕ) (xs : List ℕ) (i : ℕ) → Holds c status → i < length xs → with_scheduler self s ≡ applied k (ends_each c words (take i xs))
+  -- one more of a line, in a loop that keeps the scheduler beside the tables
+  each_step : (k self : Kernel) (s : Scheduler) (status : ℕ) (xs : List ℕ) (i : ℕ) → Holds c status → i < length xs → with_scheduler self s ≡ applied k (ends_each c words (take i xs))
       → with_held (with_scheduler self (woken s (get_or xs i 0))) (get_or xs i 0) (holding status words) ≡ applied k (ends_each c words (take (i + 1) xs))
   unfolding with_scheduler with_held edited record_by held_by frontb joined woken
   each_step k self s status xs i same h e =
@@ -37,6 +38,23 @@ module _ (c : Cause) (words : List ℕ) where
       sym (ap (λ (v : ℕ). with_held (with_scheduler self (woken s x)) x (holding v words)) (same (thread_at s x) (held_at (with_scheduler self s) x)))
       ∙ ap (λ (u : Kernel). edited u (moves x (ends c words))) e
       ∙ sym (ap (λ (l : List ℕ). applied k (ends_each c words l)) (take_one xs i h) ∙ each_last k (take i xs) x)
+
+  -- the same, where the loop has stored what the thread holds
+  pub each_stored : (k self : Kernel) (s next : Scheduler) (hs : List Held) (status : ℕ) (h : Held) (xs : List ℕ) (i : ℕ) → Holds c status → i < length xs → h ≡ holding status words
+      → next ≡ woken s (get_or xs i 0) → hs ≡ set self.held (get_or xs i 0) h → with_scheduler self s ≡ applied k (ends_each c words (take i xs))
+      → record { scheduler = next; held = hs; semaphores = self.semaphores; queues = self.queues; groups = self.groups; pools = self.pools; clock = self.clock } ≡ applied k (ends_each c words (take (i + 1) xs))
+  unfolding with_scheduler with_held
+  each_stored k self s next hs status h xs i same more g e f below =
+      (λ j. record {
+        scheduler = e j;
+        held = (f ∙ ap (set self.held (get_or xs i 0)) g) j;
+        semaphores = self.semaphores;
+        queues = self.queues;
+        groups = self.groups;
+        pools = self.pools;
+        clock = self.clock;
+      })
+      ∙ each_step k self s status xs i same more below
 
   -- who moves: each of them
   pub movers-each : (f : Move → Bool) (xs : List ℕ) → f (ends c words) ≡ true → movers f (ends_each c words xs) ≡ xs

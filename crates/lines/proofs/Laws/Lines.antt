@@ -2,18 +2,19 @@
 use mathlib.Core.Path.{◌≡◌, refl, sym, ap, ◌∙◌, ap₂}
 use mathlib.Core.List.{List, [], ◌∷◌, ◌++◌, append_assoc, append-nil}
 use mathlib.Core.Bool.{Bool, true, false, ◌||◌}
-use Prim.Native.Nat.{ℕ, zero, suc, ◌+◌, ◌-◌, ◌≤◌, ◌<◌, min}
+use Prim.Native.Nat.{ℕ, zero, suc, ◌+◌, ◌≤◌, ◌<◌, min}
 use native.Mathlib.Nat.{not-suc-le-zero, le_of_suc-le-suc}
 use native.Mathlib.Omega.{arith}
 use native.Mathlib.Numerals.{add-one}
-use lib.ListN.{length, take, drop, get_or, set, replicate, length-append, length-take}
+use lib.ListN.{length, take, get_or, set, replicate, length-append, length-take}
 use lib.Dec.{eqb, ltb, leb}
-use lib.Seq.{take-suc, take_all, take-append-le, take-nil, get_or-take, drop-cons, drop-length, length-take-le}
-use borrow.Author.Tests.{eq-eqb, le-leb, ltb-false}
+use lib.Seq.{take_all, take-append-le, take-nil}
+use borrow.Author.Tests.{eq-eqb, le-leb, ltb-true, ltb-false}
+use Rattle.std.proofs.lemmas.List.{take_more}
 use Rattle.lines.specs.declared.Line.{Line}
 use Rattle.lines.specs.Logic.{all_below}
 use Rattle.lines.specs.Lists.{filter, without}
-use Rattle.lines.specs.Lines.{members, pad, line_of, cleanb}
+use Rattle.lines.specs.Lines.{members, pad, line_of, pushed, cleanb}
 use Rattle.lines.proofs.Laws.Logic.{by_test, and_in, or_left, or_right, all_in}
 use Rattle.lines.proofs.Laws.Lists.{filter_yes, filter_no, filter-append, without_keep, without_skip}
 
@@ -112,7 +113,7 @@ members-take l = go l.len l.ids
 -- ---- one more at the end
 -- one slot more
 pub take_one : (xs : List ℕ) (i : ℕ) → i < length xs → take (i + 1) xs ≡ take i xs ++ (get_or xs i 0 ∷ [])
-take_one xs i h = rw (add-one, take-suc xs i 0)
+take_one xs i h = take_more xs i 0 h
 
 pub line_of-len : (l : Line) (xs : List ℕ) → l ≡ line_of xs → l.len ≡ min 32 (length xs)
 unfolding line_of
@@ -138,25 +139,33 @@ one_more l xs t e h =
     let b : l.len + 1 ≡ length (take 32 (xs ++ (t ∷ []))) = omega (arith, ap length q, s, m) in
     λ i. record { ids = a i; len = b i }
 
+-- whoever is pushed stands behind the others
+pub pushes : {r l : Line} (xs : List ℕ) (t : ℕ) → r ≡ pushed l t → l ≡ line_of xs → r ≡ line_of (xs ++ (t ∷ []))
+unfolding pushed
+pushes {r} {l} xs t p e =
+    by_test (ltb l.len 32)
+    (λ q. (rw q at p) ∙ one_more l xs t e (ltb-true l.len 32 q))
+    (λ q. (rw q at p) ∙ full l xs t e (ltb-false l.len 32 q))
+
 -- ---- loops over a line
 -- one slot on: the others than t behind ys
 pub gather_keep : (ys : List ℕ) (t : ℕ) (xs : List ℕ) (i : ℕ) → i < length xs → (get_or xs i 0 ≡ t → ⊥)
     → ys ++ without t (take (i + 1) xs) ≡ ys ++ without t (take i xs) ++ (get_or xs i 0 ∷ [])
 gather_keep ys t xs i h n =
-    ap {B = List ℕ} (λ r. ys ++ without t r) (take_one xs i h)
+    ap {B = List ℕ} (λ r. ys ++ without t r) (take_more xs i 0 h)
     ∙ ap {B = List ℕ} (λ r. ys ++ r) (without_keep t (get_or xs i 0) (take i xs) n)
     ∙ sym (append_assoc ys (without t (take i xs)) (get_or xs i 0 ∷ []))
 
 pub gather_skip : (ys : List ℕ) (t : ℕ) (xs : List ℕ) (i : ℕ) → i < length xs → get_or xs i 0 ≡ t
     → ys ++ without t (take (i + 1) xs) ≡ ys ++ without t (take i xs)
 gather_skip ys t xs i h e =
-    ap {B = List ℕ} (λ r. ys ++ without t r) (take_one xs i h)
+    ap {B = List ℕ} (λ r. ys ++ without t r) (take_more xs i 0 h)
     ∙ ap {B = List ℕ} (λ r. ys ++ r) (without_skip t (get_or xs i 0) (take i xs) e)
 
 -- one slot on: the part for which a test holds
 module _ (f : ℕ → Bool) (i : ℕ) (xs : List ℕ) (h : i < length xs) where
   one_on : filter f (take (i + 1) xs) ≡ filter f (take i xs) ++ filter f (get_or xs i 0 ∷ [])
-  one_on = ap (filter f) (take_one xs i h) ∙ filter-append f (take i xs) (get_or xs i 0 ∷ [])
+  one_on = ap (filter f) (take_more xs i 0 h) ∙ filter-append f (take i xs) (get_or xs i 0 ∷ [])
 
   pub kept_one : f (get_or xs i 0) ≡ true → filter f (take (i + 1) xs) ≡ filter f (take i xs) ++ (get_or xs i 0 ∷ [])
   unfolding filter
@@ -165,21 +174,6 @@ module _ (f : ℕ → Bool) (i : ℕ) (xs : List ℕ) (h : i < length xs) where
   pub left_one : f (get_or xs i 0) ≡ false → filter f (take (i + 1) xs) ≡ filter f (take i xs)
   unfolding filter
   left_one e = one_on ∙ ap {B = List ℕ} (λ r. filter f (take i xs) ++ r) (filter_no f (get_or xs i 0) [] e) ∙ append-nil (filter f (take i xs))
-
--- one slot back in the first n
-pub back : (n i : ℕ) (xs : List ℕ) → 0 < i → i ≤ length (take n xs) → drop (i - 1) (take n xs) ≡ get_or xs (i - 1) 0 ∷ drop i (take n xs)
-back n i xs pos le =
-    let e : suc (i - 1) ≡ i = omega arith in
-    let w = length-take n xs in
-    let g = get_or-take n xs (i - 1) 0 (omega (arith, w)) in
-    drop-cons (take n xs) (i - 1) 0 (omega arith)
-    ∙ (λ j. g j ∷ drop (e j) (take n xs))
-
--- nothing is left at the end
-pub back_start : (n : ℕ) (xs : List ℕ) → n ≤ length xs → drop n (take n xs) ≡ []
-back_start n xs h =
-    let d = length-take-le n xs h in
-    ap (λ (k : ℕ). drop k (take n xs)) (sym d) ∙ drop-length (take n xs)
 
 -- ---- clean lines
 pub line_of_clean : (xs : List ℕ) → cleanb (line_of xs) ≡ true

@@ -1,29 +1,29 @@
 -- The tally of a list says how often each number stands in it.
 use mathlib.Core.Path.{◌≡◌, refl, sym, ap, ◌∙◌}
-use mathlib.Core.List.{List, [], ◌∷◌}
+use mathlib.Core.List.{List, [], ◌∷◌, ◌++◌}
 use mathlib.Core.Bool.{Bool, ◌&&◌}
-use Prim.Native.Nat.{ℕ, zero, suc, ◌+◌, ◌≤◌, ◌<◌}
+use Prim.Native.Nat.{ℕ, zero, suc, ◌+◌, ◌≤◌, ◌<◌, min}
 use native.Mathlib.Omega.{arith}
 use lib.ListN.{length, get_or, length-set, replicate}
 use lib.Seq.{get_or-set_same, get_or-set_other}
 use lib.Dec.{eqb, ltb}
-use borrow.Author.Tests.{ne_eqb, lt-ltb, le-ltb, ltb-true, ltb-false}
+use borrow.Author.Tests.{eq-eqb, ne_eqb, ltb-true, ltb-false}
+use Rattle.std.proofs.lemmas.List.{ext_get_or}
+use Rattle.lines.specs.Logic.{one_if}
 use Rattle.lines.specs.Loops.{slot_of, tally}
 use Rattle.lines.specs.Lists.{count, below}
-use Rattle.lines.proofs.Laws.Logic.{by_test, by_eq, by_choice}
+use Rattle.lines.proofs.Laws.Logic.{by_test, by_eq, by_choice, one_at_most}
 use Rattle.lines.proofs.Laws.Lists.{count_here, count_there}
 
-pub slot_in : (x : ℕ) → x < 32 → slot_of x ≡ x
+pub slot-min : (x : ℕ) → slot_of x ≡ min x 32
 unfolding slot_of
-slot_in x h = rw (lt-ltb x 32 h)
+slot-min x = by_choice (λ (z : ℕ). z ≡ min x 32) (ltb x 32) _ _ (λ q. let l = ltb-true x 32 q in omega (arith, l)) (λ q. let l = ltb-false x 32 q in omega (arith, l))
 
-pub slot_out : (x : ℕ) → 32 ≤ x → slot_of x ≡ 32
-unfolding slot_of
-slot_out x h = rw (le-ltb x 32 h)
+slot_in : (x : ℕ) → x < 32 → slot_of x ≡ x
+slot_in x h = omega (arith, slot-min x)
 
-pub slot_small : (x : ℕ) → slot_of x < 33
-unfolding slot_of
-slot_small x = by_choice (λ (z : ℕ). z < 33) (ltb x 32) _ _ (λ q. let l = ltb-true x 32 q in omega (arith, l)) (λ q. omega arith)
+slot_out : (x : ℕ) → 32 ≤ x → slot_of x ≡ 32
+slot_out x h = omega (arith, slot-min x)
 
 pub tally-length : (xs : List ℕ) → length (tally xs) ≡ 33
 unfolding tally
@@ -33,7 +33,7 @@ tally-length (x ∷ xs) = simp length-set (tally-length xs)
 -- one number more
 tally_hit : (x : ℕ) (xs : List ℕ) → get_or (tally (x ∷ xs)) (slot_of x) 0 ≡ get_or (tally xs) (slot_of x) 0 + 1
 unfolding tally
-tally_hit x xs = get_or-set_same (tally xs) (slot_of x) _ 0 (let l = slot_small x in let e = tally-length xs in omega (arith, l, e))
+tally_hit x xs = get_or-set_same (tally xs) (slot_of x) _ 0 (omega (arith, slot-min x, tally-length xs))
 
 tally-at : (x : ℕ) (xs : List ℕ) (k : ℕ) → k ≡ slot_of x → get_or (tally (x ∷ xs)) k 0 ≡ get_or (tally xs) k 0 + 1
 tally-at x xs k e = ap (λ (j : ℕ). get_or (tally (x ∷ xs)) j 0) e ∙ tally_hit x xs ∙ ap (λ (j : ℕ). get_or (tally xs) j 0 + 1) (sym e)
@@ -72,11 +72,24 @@ tally-below (x ∷ xs) =
     let e : get_or (tally (x ∷ xs)) 32 0 ≡ get_or (tally xs) 32 0 + 1 = tally-at x xs 32 (sym s) in
     ne_eqb (get_or (tally (x ∷ xs)) 32 0) 0 (λ q. omega (arith, e, q)) ∙ ap (λ (b : Bool). b && below 32 xs) (sym l))
 
-pub tally_small : (k : ℕ) (xs : List ℕ) → get_or (tally xs) k 0 ≤ length xs
-unfolding tally
-tally_small k [] = let z = zeros-at 33 k in omega (arith, z)
-tally_small k (x ∷ xs) =
-    let r = tally_small k xs in
+-- how often each slot is counted, with one number more
+tally-step : (x : ℕ) (xs : List ℕ) (k : ℕ) → get_or (tally (x ∷ xs)) k 0 ≡ one_if (eqb k (slot_of x)) + get_or (tally xs) k 0
+unfolding one_if
+tally-step x xs k =
     by_eq k (slot_of x)
-    (λ e. let h : get_or (tally (x ∷ xs)) k 0 ≡ get_or (tally xs) k 0 + 1 = tally-at x xs k e in omega (arith, h, r))
-    (λ e. let h = tally_miss x xs k e in omega (arith, h, r))
+    (λ e. rw (eq-eqb k (slot_of x) e) (omega (arith, tally-at x xs k e)))
+    (λ e. rw (ne_eqb k (slot_of x) e) (omega (arith, tally_miss x xs k e)))
+
+-- the order of the numbers does not matter
+tally-slot : (xs : List ℕ) (x k : ℕ) → get_or (tally (xs ++ (x ∷ []))) k 0 ≡ get_or (tally (x ∷ xs)) k 0
+tally-slot [] x k = refl
+tally-slot (y ∷ xs) x k =
+    omega (arith, tally-slot xs x k, tally-step y (xs ++ (x ∷ [])) k, tally-step x (y ∷ xs) k, tally-step y xs k, tally-step x xs k)
+
+pub tally_more : (xs : List ℕ) (x : ℕ) → tally (xs ++ (x ∷ [])) ≡ tally (x ∷ xs)
+tally_more xs x = ext_get_or 0 _ _ (tally-length (xs ++ (x ∷ [])) ∙ sym (tally-length (x ∷ xs))) (λ k h. tally-slot xs x k)
+
+pub tally_small : (k : ℕ) (xs : List ℕ) → get_or (tally xs) k 0 ≤ length xs
+unfolding tally one_if
+tally_small k [] = let z = zeros-at 33 k in omega (arith, z)
+tally_small k (x ∷ xs) = omega (arith, tally_small k xs, tally-step x xs k, one_at_most (eqb k (slot_of x)))

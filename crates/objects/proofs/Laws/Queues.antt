@@ -7,7 +7,6 @@ use native.Mathlib.Omega.{arith}
 use native.Mathlib.Nat.{div-le_self, zero-mul, suc-mul, add_comm, le_trans}
 use native.Mathlib.Numerals.{add-one}
 use lib.ListN.{length, take, drop, get_or, length-take, length-drop, length-append, get_or-replicate, get_or-eq_default}
-use lib.Seq.{length-take-le, take-take}
 use lib.Dec.{eqb, leb}
 use borrow.Author.Tests.{eqb-true, eqb-false, eq-eqb, leb-true, le-leb, ltb-true, ltb-false, lt-ltb}
 use Rattle.lines.specs.Logic.{all_below}
@@ -16,7 +15,8 @@ use Rattle.lines.proofs.Laws.Lines.{get_d-pad}
 use Rattle.objects.specs.declared.queue.Queue.{Queue}
 use Rattle.lines.specs.Slots.{zero_from}
 use Rattle.objects.specs.Queues.{no_queue, capacity_of, used_words, sizes_fitb, queue_limitsb, store_fitb, queue_zerob, queue_fitb, emptyb, fullb, roomb, empty_queue, stored_words, storing, without_oldest, with_last, with_first, with_sent, left_past, flushed}
-use Rattle.lines.proofs.Laws.Slots.{none_used, zero_in, take_most, drop_most, part}
+use Rattle.lines.proofs.Laws.Slots.{none_used, zero_in}
+use Rattle.std.specs.Prelude.{if◌then◌else◌}
 
 pub none_fit : queue_fitb no_queue ≡ true
 unfolding queue_fitb queue_zerob no_queue zero_from all_below
@@ -101,31 +101,6 @@ module _ (q : Queue) (e : queue_fitb q ≡ true) (u : q.created ≡ true) where
       leb-true q.stored (capacity_of q)
       (and_left (leb q.stored (capacity_of q)) (zero_from (used_words q) q.store) (and_right (queue_limitsb q) (store_fitb q) both))
 
--- ---- the words of the messages, as they are read from a store of 64
-module _ (q : Queue) (l : length q.store ≡ 64) (n : ℕ) (e : n ≡ min (used_words q) 64) where
-  pub stored_most : n ≤ length q.store
-  stored_most = omega (arith, l, e)
-
-  pub words-stored : take n q.store ≡ stored_words q
-  unfolding stored_words
-  words-stored = take_most (used_words q) n q.store (omega (arith, l, e))
-
-  length-stored : length (stored_words q) ≡ n
-  length-stored = ap length (sym words-stored) ∙ length-take-le n q.store stored_most
-
-  module _ (k : ℕ) (g : k ≡ min q.words n) where
-    pub words-oldest : take k q.store ≡ take q.words (stored_words q)
-    words-oldest =
-        sym (take-take k n q.store (omega (arith, g)))
-        ∙ ap (take k) words-stored
-        ∙ take_most q.words k (stored_words q) (g ∙ ap (min q.words) (sym length-stored))
-
-    pub words_left : take (n - k) (drop k q.store) ≡ drop q.words (stored_words q)
-    words_left =
-        part k n q.store
-        ∙ ap (drop k) words-stored
-        ∙ drop_most q.words k (stored_words q) (g ∙ ap (min q.words) (sym length-stored))
-
 -- ---- a further message
 pub last_room : (q : Queue) (m : List ℕ) → roomb q ≡ true → with_last q m ≡ storing q (q.stored + 1) (stored_words q ++ take q.words m)
 unfolding with_last
@@ -142,6 +117,17 @@ first_room q m e = rw e
 pub first_full : (q : Queue) (m : List ℕ) → roomb q ≡ false → with_first q m ≡ q
 unfolding with_first
 first_full q m e = rw e
+
+pub sent_room : (q : Queue) (front : Bool) (m : List ℕ) → roomb q ≡ true
+    → with_sent q front m ≡ storing q (q.stored + 1) (if front then take q.words m ++ stored_words q else stored_words q ++ take q.words m)
+unfolding with_sent
+sent_room q true m e = first_room q m e
+sent_room q false m e = last_room q m e
+
+pub sent_full : (q : Queue) (front : Bool) (m : List ℕ) → roomb q ≡ false → with_sent q front m ≡ q
+unfolding with_sent
+sent_full q true m e = first_full q m e
+sent_full q false m e = last_full q m e
 
 -- with room, one more message is counted within a byte
 pub room_byte : (q : Queue) → q.storage < 256 → roomb q ≡ true → q.stored + 1 < 256

@@ -74,11 +74,6 @@ pub put_none : (buf : List ℕ) (at : ℕ) → Put buf at [] buf (min at (length
 unfolding text_end text_in
 put_none buf at = record { end = refl; bytes = refl; within = omega arith }
 
--- a position behind a text is one behind which nothing more has gone in yet
-pub put-start : {a b : List ℕ} {at r : ℕ} {xs : List ℕ} → Put a at xs b r → Put b r [] b r
-unfolding text_end text_in
-put-start {a} {b} {at} {r} p = let w = p.within in record { end = omega (arith, w); bytes = refl; within = w }
-
 -- a byte that finds room, one that finds the buffer full, and one that finds a buffer of no size
 pub byte_room : (buf : List ℕ) (at b : ℕ) → at < length buf → Put buf at (b ∷ []) (set buf at b) (at + 1)
 unfolding text_end text_in byte_end

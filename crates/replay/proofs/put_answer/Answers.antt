@@ -1,7 +1,10 @@
 use Rattle.output.proofs.Laws.Texts.{put-append}
-use Rattle.replay.specs.Replay.{record_text}
+use Rattle.replay.specs.Replay.{record_text, answer_text}
 use Rattle.replay.proofs.put_answer.Goals as goal
 
 pub returns : goal.returns
-unfolding record_text
-returns g c = put-append (put-append (put-append (put-append c.put_decimal-at.ensures c.put_byte-at.ensures) c.put_thread-at.ensures) c.put_field-at.ensures) c.put_byte.ensures
+unfolding answer_text record_text
+returns g c =
+    put-append
+    (put-append (put-append (put-append (rw c.from.ensures at c.put_decimal.ensures) c.put_byte.ensures) c.put_thread.ensures) c.put_field.ensures)
+    c.put_byte-2.ensures

@@ -4,4 +4,4 @@ use Rattle.replay.proofs.put_count.Goals as goal
 
 pub returns : goal.returns
 unfolding count_text
-returns g c = put-append c.put_field-at.ensures c.put_byte.ensures
+returns g c = put-append c.put_field.ensures c.put_byte.ensures

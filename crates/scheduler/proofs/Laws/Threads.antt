@@ -6,18 +6,15 @@ use Prim.Native.Nat.{ℕ, ◌≤◌, ◌<◌}
 use native.Mathlib.Omega.{arith}
 use lib.ListN.{length, length-map, get_or-eq_default}
 use lib.Dec.{eqb, ltb, leb}
-use borrow.Author.Tests.{eqb-true, ltb-true, leb-true, lt-ltb, le-leb, not-true}
+use borrow.Author.Tests.{eqb-true, ltb-true, ltb-false, leb-true, lt-ltb, le-leb, not-true}
 use Rattle.std.specs.Prelude.{if◌then◌else◌}
 use Rattle.lines.proofs.Laws.Logic.{by_test, never, and_left, and_right, and_in, or_left, implies_out, implies_in}
 use Rattle.scheduler.specs.declared.thread.Thread.{Thread}
 use Rattle.scheduler.specs.declared.thread.Place.{Place}
-use Rattle.scheduler.specs.declared.thread.Among.{Among}
-use Rattle.scheduler.specs.declared.thread.Among.TheVariants.{Ready, Marked, At}
 use Rattle.scheduler.specs.declared.Scheduler.{Scheduler}
 use Rattle.scheduler.specs.Threads.{uncreated, readyb, sleepsb, waitsb, pausedb, markedb, standsb, number_of, placedb}
 use Rattle.scheduler.specs.Orders.{thread_at}
 use Rattle.scheduler.specs.Choice.{with_mark}
-use Rattle.scheduler.specs.Loops.{wantedb}
 use Rattle.scheduler.specs.Changes.{with_levels}
 use Rattle.scheduler.specs.Sound.{limitsb, mark_fitb, suspension_fitb, ticks_fitb, object_fitb, zerob, fitb}
 
@@ -38,6 +35,9 @@ pub none-ready : readyb uncreated ≡ false
 unfolding readyb uncreated
 none-ready = refl
 
+pub ready_small : (s : Scheduler) (t : ℕ) → length s.threads ≡ 32 → readyb (thread_at s t) ≡ true → t < 32
+ready_small s t e h = by_test (ltb t 32) (λ w. ltb-true t 32 w) (λ w. never h (ap readyb (none-at s t e (ltb-false t 32 w)) ∙ none-ready))
+
 pub none_unmarked : uncreated.marked ≡ false
 unfolding uncreated
 none_unmarked = refl
@@ -46,11 +46,9 @@ pub none_placed : (p : Place) → placedb p uncreated ≡ false
 unfolding placedb standsb readyb waitsb uncreated
 none_placed p = refl
 
-pub none_wanted : (a : Among) → wantedb a uncreated ≡ false
-unfolding wantedb markedb readyb uncreated
-none_wanted Ready = refl
-none_wanted Marked = refl
-none_wanted (At p) = none_placed p
+pub none_marked : markedb uncreated ≡ false
+unfolding markedb readyb uncreated
+none_marked = refl
 
 -- ---- standing
 pub ready_stands : (th : Thread) → readyb th ≡ true → standsb th ≡ true

@@ -1,12 +1,8 @@
 use mathlib.Core.Path.{◌≡◌}
-use Prim.Native.Nat.{◌≤◌, ◌-◌}
 use lib.ListN.{take}
 use Rattle.lines.specs.Lines.{pad}
 use Rattle.tape.specs.Tapes.{messages_of}
 use Rattle.tape.proofs.messages.Given as goal
 
 abbrev pub invariant-loop-i : goal.invariant-loop-i
-invariant-loop-i l = (l.i ≤ l.m) × (l.m ≤ 4000) × (l.words ≡ pad 4000 (take l.i (messages_of l.bytes)))
-
-abbrev pub decreases-loop-i : goal.decreases-loop-i
-decreases-loop-i l = l.m - l.i
+invariant-loop-i l = l.words ≡ pad 4000 (take l.i (messages_of l.bytes))

@@ -1,5 +1,4 @@
 use mathlib.Core.Path.{◌∙◌, ap}
-use borrow.Author.Rules.{rules}
 use borrow.Author.Tests.{lt-ltb, le-ltb}
 use Rattle.tape.specs.Tapes.{records_end, no_request, record_from, record_at}
 use Rattle.tape.proofs.Laws.Tapes.{part_size, part_record}
@@ -9,77 +8,9 @@ pub returns-then-i-ge-MOST_RECORDS : goal.returns-then-i-ge-MOST_RECORDS
 unfolding record_at no_request
 returns-then-i-ge-MOST_RECORDS c = rw (le-ltb c.args.i 2048 c.if-i-ge-MOST_RECORDS.true)
 
-pub overflow_cast-i : goal.overflow_cast-i
-unfolding records_end
-overflow_cast-i c = search rules
-
-pub records_end-at-requires : goal.records_end-at-requires
-unfolding records_end
-records_end-at-requires c = search rules
-
-pub overflow_add-end : goal.overflow_add-end
-unfolding records_end
-overflow_add-end c = search rules
-
-pub slice_bounds-record_of-count : goal.slice_bounds-record_of-count
-unfolding records_end
-slice_bounds-record_of-count c = search rules
-
-pub slice_bounds-record_of-start : goal.slice_bounds-record_of-start
-unfolding records_end
-slice_bounds-record_of-start c = search rules
-
-pub slice_bounds-record_of-end : goal.slice_bounds-record_of-end
-unfolding records_end
-slice_bounds-record_of-end c = search rules
-
 pub record_of-requires : goal.record_of-requires
 unfolding records_end
 record_of-requires c = part_size _ _ 24 c.if-end-bytes.true
-
-pub word-requires : goal.word-requires
-unfolding records_end
-word-requires c = search rules
-
-pub overflow_add-at : goal.overflow_add-at
-unfolding records_end
-overflow_add-at c = search rules
-
-pub word-requires-else-end-bytes : goal.word-requires-else-end-bytes
-unfolding records_end
-word-requires-else-end-bytes c = search rules
-
-pub overflow_add-at-else-end-bytes : goal.overflow_add-at-else-end-bytes
-unfolding records_end
-overflow_add-at-else-end-bytes c = search rules
-
-pub word-requires-else-end-bytes-2 : goal.word-requires-else-end-bytes-2
-unfolding records_end
-word-requires-else-end-bytes-2 c = search rules
-
-pub overflow_add-at-else-end-bytes-2 : goal.overflow_add-at-else-end-bytes-2
-unfolding records_end
-overflow_add-at-else-end-bytes-2 c = search rules
-
-pub word-requires-else-end-bytes-3 : goal.word-requires-else-end-bytes-3
-unfolding records_end
-word-requires-else-end-bytes-3 c = search rules
-
-pub overflow_add-at-else-end-bytes-3 : goal.overflow_add-at-else-end-bytes-3
-unfolding records_end
-overflow_add-at-else-end-bytes-3 c = search rules
-
-pub word-requires-else-end-bytes-4 : goal.word-requires-else-end-bytes-4
-unfolding records_end
-word-requires-else-end-bytes-4 c = search rules
-
-pub overflow_add-at-else-end-bytes-4 : goal.overflow_add-at-else-end-bytes-4
-unfolding records_end
-overflow_add-at-else-end-bytes-4 c = search rules
-
-pub word-requires-else-end-bytes-5 : goal.word-requires-else-end-bytes-5
-unfolding records_end
-word-requires-else-end-bytes-5 c = search rules
 
 pub returns-then-end-bytes : goal.returns-then-end-bytes
 unfolding record_at

@@ -1,8 +1,8 @@
 -- Laws of the first items of a list, and of their texts.
 use mathlib.Core.Path.{◌≡◌, refl, sym, ap, subst, ◌∙◌}
 use mathlib.Core.List.{List, [], ◌∷◌, ◌++◌, append-nil, append_assoc}
-use mathlib.Core.Bool.{Bool, true}
-use Prim.Native.Nat.{ℕ, zero, suc, ◌+◌, ◌<◌, min}
+use mathlib.Core.Bool.{Bool, true, false}
+use Prim.Native.Nat.{ℕ, suc, ◌+◌, ◌<◌, min}
 use native.Mathlib.Omega.{arith}
 use native.Mathlib.Numerals.{add-one}
 use lib.ListN.{length, take, get_or}
@@ -10,18 +10,14 @@ use lib.Seq.{take-suc, take_all, length-take-le}
 use lib.Dec.{ltb}
 use borrow.Author.Tests.{ltb-true, ltb-false}
 use Rattle.std.specs.Prelude.{if◌then◌else◌}
+use Rattle.std.specs.Int.{from_bool}
+use Rattle.lines.specs.Logic.{one_if}
 use Rattle.lines.proofs.Laws.Logic.{by_test}
 use Rattle.output.specs.Texts.{Put}
 use Rattle.output.proofs.Laws.Texts.{put-append}
 use Rattle.text.specs.Texts.{each_text}
 
 -- ---- parts of lists
--- as many as were taken
-pub take_taken : {A : Type 0} (n : ℕ) (xs : List A) → take (length (take n xs)) xs ≡ take n xs
-take_taken zero xs = refl
-take_taken (suc n) [] = refl
-take_taken (suc n) (x ∷ xs) = ap (λ (l : List _). x ∷ l) (take_taken n xs)
-
 -- as many as the smaller of a number and the length
 pub take_least : {A : Type 0} (n m : ℕ) (xs : List A) → length xs ≡ m → take (min n m) xs ≡ take n xs
 take_least n m xs e =
@@ -50,6 +46,17 @@ pub put_more : {A : Type 0} (f : ℕ → A → List ℕ) (xs : List A) (d : A) {
     → Put a at (each_text f 0 (take i xs)) b r → Put b r (f i (get_or xs i d)) c s → Put a at (each_text f 0 (take (i + 1) xs)) c s
 put_more f xs d {a} {b} {c} {at} {i} {r} {s} h p q = rw (each_more f xs i d h) (put-append p q)
 
+-- the same, of an item that was read by its index
+pub put_item : {A : Type 0} (f : ℕ → A → List ℕ) (xs : List A) {x : A} {a b c : List ℕ} {at i r s : ℕ} → i < length xs → x ≡ get_or xs i x
+    → Put a at (each_text f 0 (take i xs)) b r → Put b r (f i x) c s → Put a at (each_text f 0 (take (i + 1) xs)) c s
+put_item f xs {x} {a} {b} {c} {at} {i} {r} {s} h e p q = put_more f xs x h p (subst (λ (y : _). Put b r (f i y) c s) e q)
+
 -- ---- a text that is put only where a test holds
 pub put_if : {a c xs : List ℕ} {at r : ℕ} (b : Bool) → b ≡ true → Put a at xs c r → Put a at (if b then xs else []) c r
 put_if {a} {c} {xs} {at} {r} b e p = subst (λ (v : Bool). Put a at (if v then xs else []) c r) (sym e) p
+
+-- ---- a bit
+pub bit_is : (b : Bool) → from_bool b ≡ one_if b
+unfolding one_if
+bit_is true = refl
+bit_is false = refl

@@ -4,4 +4,4 @@ use Rattle.text.proofs.put_field.Goals as goal
 
 pub returns : goal.returns
 unfolding field_text
-returns g c = put-append c.put_text-at.ensures c.put_decimal.ensures
+returns g c = put-append c.put_text.ensures (rw c.from.ensures at c.put_decimal.ensures)

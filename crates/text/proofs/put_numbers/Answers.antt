@@ -1,27 +1,20 @@
-use Rattle.std.proofs.Common.{ℕ, ◌<◌, ◌++◌, length, arith}
+use Rattle.std.proofs.Common.{ℕ, ◌++◌}
 use lib.Seq.{take_all}
 use Rattle.output.specs.Texts.{decimal_of}
-use Rattle.output.proofs.Laws.Texts.{put-append, put-start}
-use Rattle.text.specs.Texts.{each_text, separator_text, separated}
-use Rattle.text.proofs.Laws.Texts.{put_more}
+use Rattle.output.proofs.Laws.Texts.{put-append}
+use Rattle.text.specs.Texts.{each_text, separator_text}
+use Rattle.text.proofs.Laws.Texts.{put_item}
 use Rattle.text.proofs.put_numbers.Goals as goal
 
 pub loop-i-init : goal.loop-i-init
-unfolding separated each_text
-loop-i-init g c = record { within = omega arith; put = put-start c.put_nothing-to.ensures }
+unfolding each_text
+loop-i-init g c = c.put_nothing.ensures
 
 pub loop-i-preserved : goal.loop-i-preserved
-unfolding separated
 loop-i-preserved g c =
-    let h : c.loop-i.i < length c.args.numbers.now = omega arith in
-    let d = rw c.wide_number.ensures at c.put_decimal-to.ensures in
-    record {
-      within = omega arith;
-      put =
-          put_more (λ (i n : ℕ). separator_text i c.args.separator ++ decimal_of n) c.args.numbers.now 0 h c.loop-i.invariant.put
-          (put-append c.put_separator-to.ensures d);
-    }
+    let n = g.met.T.Number.converted c.index-numbers-i.result c.into.result c.into.ensures in
+    put_item (λ (i : ℕ) (x : _). separator_text i c.args.separator ++ decimal_of (g.T.Number.number x)) c.args.numbers.now c.loop-i-test.true
+    c.index-numbers-i.is c.loop-i.invariant (put-append c.put_separator.ensures (rw n at c.put_decimal.ensures))
 
 pub returns : goal.returns
-returns g c =
-    put-append c.put_nothing-to.ensures (rw (take_all c.loop-i.i c.args.numbers.now (omega arith)) at c.loop-i.invariant.put)
+returns g c = rw (take_all c.loop-i.i c.args.numbers.now c.loop-i-test.false) at c.loop-i.invariant

@@ -1,7 +1,8 @@
+use Rattle.std.proofs.Common.{rules}
 use Rattle.output.proofs.Laws.Texts.{put-append}
 use Rattle.text.specs.Texts.{refused_text}
 use Rattle.text.proofs.put_refused.Goals as goal
 
 pub returns : goal.returns
 unfolding refused_text
-returns g c = put-append c.put_field-at.ensures c.put_byte.ensures
+returns g c = search (rules, put-append)

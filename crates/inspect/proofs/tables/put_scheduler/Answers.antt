@@ -4,4 +4,4 @@ use Rattle.inspect.proofs.tables.put_scheduler.Goals as goal
 
 pub returns : goal.returns
 unfolding scheduler_text
-returns g c = put-append (put-append c.put_start-at.ensures c.put_threads-at.ensures) c.put_orders.ensures
+returns g c = put-append (put-append c.put_start.ensures c.put_threads.ensures) c.put_orders.ensures

@@ -4,4 +4,4 @@ use Rattle.inspect.proofs.tables.put_start.Goals as goal
 
 pub returns : goal.returns
 unfolding start_text
-returns g c = put-append (put-append (put-append c.put_field-at.ensures c.put_text-at.ensures) c.put_thread-at.ensures) c.put_byte.ensures
+returns g c = put-append (put-append (put-append c.put_field.ensures c.put_text.ensures) c.put_thread.ensures) c.put_byte.ensures

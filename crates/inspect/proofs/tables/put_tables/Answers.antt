@@ -4,4 +4,9 @@ use Rattle.inspect.proofs.tables.put_tables.Goals as goal
 
 pub returns : goal.returns
 unfolding tables_text
-returns g c = put-append (put-append (put-append (put-append (put-append c.put_scheduler-at.ensures c.put_semaphores-at.ensures) c.put_queues-at.ensures) c.put_groups-at.ensures) c.put_pools-at.ensures) c.put_text.ensures
+returns g c =
+    put-append
+    (put-append
+    (put-append (put-append (put-append c.put_scheduler.ensures c.put_semaphores.ensures) c.put_queues.ensures) c.put_groups.ensures)
+    c.put_pools.ensures)
+    c.put_text.ensures

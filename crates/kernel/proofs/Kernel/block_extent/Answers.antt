@@ -8,4 +8,4 @@ pub returns : goal.returns
 unfolding block_extent
 returns c =
     let a = c.args in
-    c.block_extent.ensures ∙ ap (λ (p : Pool). extent_of p a.block a.len) c.viewed_pool-p.ensures
+    c.block_extent.ensures ∙ ap (λ (p : Pool). extent_of p a.block a.len) c.viewed_pool.ensures

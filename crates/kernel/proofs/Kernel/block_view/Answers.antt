@@ -10,7 +10,7 @@ pub returns : goal.returns
 unfolding block_view
 returns c =
     let a = c.args in
-    let e = c.viewed_pool-p.ensures in
+    let e = c.viewed_pool.ensures in
     let shown = ap (λ (p : Pool). viewed p a.block a.area.now) e in
     let test = ap (λ (p : Pool). viewedb p a.block (length a.area.now)) e in
     let at = ap (λ (p : Pool). onwards (block_start p a.block) a.area.ref_ptr) e in

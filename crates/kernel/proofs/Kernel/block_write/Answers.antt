@@ -8,4 +8,4 @@ pub returns : goal.returns
 unfolding block_written
 returns c =
     let a = c.args in
-    c.block_write.ensures ∙ ap (λ (p : Pool). written p a.block a.bytes.now a.area.now) c.viewed_pool-p.ensures
+    c.block_write.ensures ∙ ap (λ (p : Pool). written p a.block a.bytes.now a.area.now) c.viewed_pool.ensures

@@ -13,12 +13,12 @@ pub returns-in_default : goal.returns-in_default
 unfolding unsound
 returns-in_default c =
     let x = c.args in
-    let u = on_unknown _ _ _ c.decode-decoded.ensures c.in_default.is in
+    let u = on_unknown _ _ _ c.decode.ensures c.in_default.is in
     c.refused.ensures ∙ ap answer_of u ∙ on_sound x.self x.request x.messages.now c.is_sound.ensures (ap not c.if-not-is_sound.false)
 
 pub returns : goal.returns
 unfolding unsound
 returns c =
     let x = c.args in
-    let u = on_known _ _ _ c.decode-decoded.ensures c.in-Known.is in
+    let u = on_known _ _ _ c.decode.ensures c.in-Some.is in
     c.step.ensures ∙ ap answer_of u ∙ on_sound x.self x.request x.messages.now c.is_sound.ensures (ap not c.if-not-is_sound.false)

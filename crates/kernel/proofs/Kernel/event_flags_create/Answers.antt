@@ -1,31 +1,21 @@
-use mathlib.Core.Path.{◌≡◌, sym, ◌∙◌}
+use mathlib.Core.Path.{◌≡◌, ◌∙◌}
 use Rattle.calls.specs.Chains.{group_create_refusal}
-use Rattle.kernel.specs.Tables.{group_at, with_scheduler, with_group}
 use Rattle.kernel.specs.Answers.{answer_of}
-use Rattle.kernel.specs.Loops.{answered}
-use Rattle.kernel.specs.Edits.{edited, applied, gathered, status_of, carried_out}
+use Rattle.kernel.specs.Edits.{applied, carried_out, edited, gathered, status_of}
 use Rattle.kernel.specs.Effects.{store_effect}
+use Rattle.kernel.specs.Loops.{answered}
+use Rattle.kernel.specs.Tables.{group_at, with_group, with_scheduler}
 use Rattle.kernel.proofs.Laws.Answers.{is_carried}
 use Rattle.kernel.proofs.Laws.Arms.{refused_by}
 use Rattle.kernel.proofs.Kernel.event_flags_create.Goals as goal
 
-module _ (c : goal.After-refused) where
-  -- the reason that is found is that of the definition
-  reason-1 : let a = c.args in c.group_create-reason.result ≡ group_create_refusal a.n.0 (group_at a.self a.n.0) a.caller
-  unfolding group_at
-  reason-1 = rw (← c.group_in.ensures) c.group_create-reason.ensures
-
-module _ (c : goal.After-carried) where
-  -- the reason that is found is that of the definition
-  reason : let a = c.args in c.group_create-reason.result ≡ group_create_refusal a.n.0 (group_at a.self a.n.0) a.caller
-  unfolding group_at
-  reason = rw (← c.group_in.ensures) c.group_create-reason.ensures
-
-pub returns-then-reason-ne0 : goal.returns-then-reason-ne0
-returns-then-reason-ne0 c = refused_by _ _ c.refused.ensures (reason-1 c) c.if-reason-ne0.true
+pub returns-in-Err : goal.returns-in-Err
+unfolding group_at
+returns-in-Err c = refused_by _ _ _ c.refused.ensures c.from.ensures (cc c.in-Err.ensures)
 
 pub returns : goal.returns
-unfolding carried_out applied gathered status_of answer_of answered with_scheduler edited store_effect with_group
+unfolding carried_out applied gathered status_of answer_of answered with_scheduler edited store_effect with_group group_at
 returns c =
-    let z = sym (reason c) ∙ c.if-reason-ne0.false in
-    rw is_carried (c.carried.ensures ∙ rw (c.groups_with-changed.ensures, c.of.ensures))
+    let a = c.args in
+    let z : group_create_refusal a.n.0 (group_at a.self a.n.0) a.caller ≡ 0 = cc c.in_default.ensures in
+    rw is_carried (c.carried.ensures ∙ rw (c.store.ensures, c.of.ensures))

@@ -1,29 +1,28 @@
-use mathlib.Core.Path.{◌≡◌, refl, sym, ◌∙◌}
+use mathlib.Core.Path.{ap, refl, ◌≡◌, ◌∙◌}
+use Rattle.scheduler.specs.Orders.{line_at}
+use Rattle.objects.specs.Queues.{no_queue}
 use Rattle.calls.specs.Chains.{queue_delete_refusal}
-use Rattle.kernel.specs.Tables.{queue_at}
-use Rattle.kernel.specs.Kinds.{Kind}
+use Rattle.calls.specs.Held.{no_words}
+use Rattle.kernel.specs.Answers.{answer_of}
 use Rattle.kernel.specs.Edits.{Cause, status_by}
+use Rattle.kernel.specs.Effects.{close_effect}
+use Rattle.kernel.specs.Kinds.{Kind, place_of}
+use Rattle.kernel.specs.Tables.{queue_at, with_queue}
 use Rattle.kernel.proofs.Laws.Answers.{is_carried}
 use Rattle.kernel.proofs.Laws.Arms.{refused_by}
+use Rattle.kernel.proofs.Laws.Waits.{closed}
 use Rattle.kernel.proofs.Kernel.queue_delete.Goals as goal
 
-module _ (c : goal.After-refused) where
-  -- the reason that is found is that of the definition
-  reason-1 : let a = c.args in c.queue_delete-reason.result ≡ queue_delete_refusal (queue_at a.self a.n.0) a.caller
-  unfolding queue_at
-  reason-1 = rw (← c.queue_in.ensures) c.queue_delete-reason.ensures
-
-module _ (c : goal.After-queue_ended) where
-  -- the reason that is found is that of the definition
-  reason : let a = c.args in c.queue_delete-reason.result ≡ queue_delete_refusal (queue_at a.self a.n.0) a.caller
-  unfolding queue_at
-  reason = rw (← c.queue_in.ensures) c.queue_delete-reason.ensures
-
-pub returns-then-reason-ne0 : goal.returns-then-reason-ne0
-returns-then-reason-ne0 c = refused_by _ _ c.refused.ensures (reason-1 c) c.if-reason-ne0.true
+pub returns-in-Err : goal.returns-in-Err
+unfolding queue_at
+returns-in-Err c = refused_by _ _ _ c.refused.ensures c.from.ensures (cc c.in-Err.ensures)
 
 pub returns : goal.returns
-unfolding status_by queue_at
+unfolding close_effect status_by with_queue queue_at
 returns c =
-    let z = sym (reason c) ∙ c.if-reason-ne0.false in
-    rw is_carried (c.queue_ended.ensures (Cause.deleted Kind.queue c.args.n.0) (λ th h. refl) ∙ rw c.none.ensures)
+    let a = c.args in
+    let z : queue_delete_refusal (queue_at a.self a.n.0) a.caller ≡ 0 = cc c.in_default.ensures in
+    let line = line_at a.self.scheduler (place_of Kind.queue a.n.0) in
+    let m = c.line_at-line.ensures.1 ∙ ap (line_at a.self.scheduler) c.queue.ensures in
+    rw is_carried (c.ended_each.ensures (Cause.deleted Kind.queue a.n.0) (λ th h. refl)
+    ∙ rw (m, c.store.ensures, c.none-2.ensures) (ap answer_of (closed _ no_words Kind.queue a.self a.n.0 no_queue line)))

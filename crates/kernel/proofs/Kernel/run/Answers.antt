@@ -1,6 +1,7 @@
+use Rattle.std.specs.Prelude.{Option, Some, None}
 use mathlib.Core.Path.{◌≡◌, refl, sym, ap, ◌∙◌, subst}
 use mathlib.Core.List.{List}
-use mathlib.Core.Bool.{Bool, true, false}
+use mathlib.Core.Bool.{Bool, true, false, not}
 use Prim.Native.Nat.{ℕ, ◌+◌, ◌<◌, ◌≤◌, min}
 use native.Mathlib.Omega.{arith}
 use lib.ListN.{length, take}
@@ -10,8 +11,6 @@ use Rattle.calls.specs.Statuses as Statuses
 use Rattle.calls.specs.Calls.{decoded}
 use Rattle.calls.specs.declared.call.Request.{Request}
 use Rattle.calls.specs.declared.call.Call.{Call}
-use Rattle.calls.specs.declared.call.Decoded.{Decoded}
-use Rattle.calls.specs.declared.call.Decoded.TheVariants.{Known, Unknown}
 use Rattle.tape.specs.declared.replies.Reply.{Reply}
 use Rattle.tape.specs.Replies.{refusal, replied, replied_each}
 use Rattle.tape.specs.Tapes.{refusedb, count_of, record_at, records_of, messages_of}
@@ -32,6 +31,7 @@ use Rattle.kernel.proofs.Laws.Sound.{tested}
 use Rattle.kernel.proofs.Laws.Claims.{step_sound}
 use Rattle.kernel.proofs.Kernel.run.Invariants.{current, Carried}
 use Rattle.kernel.proofs.Kernel.run.Goals as goal
+use Rattle.kernel.proofs.Kernel.run.Goals.{then-in_b, else-in_b}
 
 -- ---- one record more
 module _ (first : Kernel) (bytes out : List ℕ) {end i : ℕ} {now : Kernel} {replies : List ℕ} {next : ThreadId} (C : Carried first bytes out end i now replies next) (t : i < end) (r : Request) (read : r ≡ record_at bytes i) where
@@ -61,17 +61,17 @@ module _ (first : Kernel) (bytes out : List ℕ) {end i : ℕ} {now : Kernel} {r
       }
 
   -- it is for no known call
-  unknown : {d : Decoded} → d ≡ decoded r → d ≡ Unknown → {y : Reply} → y ≡ refusal Statuses.unknown_call next.0
+  unknown : {d : Option Call} → d ≡ decoded r → d ≡ None → {y : Reply} → y ≡ refusal Statuses.unknown_call next.0
       → {after : List ℕ} → after ≡ replied replies i y → Carried first bytes out end (i + 1) now after next
   unfolding answer_of refused reply_of refusal
   unknown d u y p = one_more (on_unknown now r messages d u) refl (y ∙ ap (λ (n : ThreadId). refusal Statuses.unknown_call n.0) C.runner) p C.runner
 
   -- a known call, with the words that are lent
-  known : (call : Call) {d : Decoded} → d ≡ decoded r → d ≡ Known call → {words : List ℕ} → words ≡ messages
+  known : (call : Call) {d : Option Call} → d ≡ decoded r → d ≡ Some call → {words : List ℕ} → words ≡ messages
       → {a : Answer} → a ≡ answer_of (guarded now (chained now r.caller call words) (effect_of now call words)) → {y : Reply} → y ≡ reply_of a
-      → {after : List ℕ} → after ≡ replied replies i y → Carried first bytes out end (i + 1) a.kernel after a.next
-  known call d u lent f y p =
-      one_more (on_known now r messages d u) (f ∙ ap (λ (w : List ℕ). answer_of (guarded now (chained now r.caller call w) (effect_of now call w))) lent) y p refl
+      → {after : List ℕ} → after ≡ replied replies i y → {n : ThreadId} → n ≡ a.next → Carried first bytes out end (i + 1) a.kernel after n
+  known call d u lent f y p n =
+      one_more (on_known now r messages d u) (f ∙ ap (λ (w : List ℕ). answer_of (guarded now (chained now r.caller call w) (effect_of now call w))) lent) y p n
 
 -- ---- after the last record the tables and the replies are those of the run
 module _ (first : Kernel) (bytes out : List ℕ) (most : ℕ) {end i : ℕ} {now : Kernel} {replies : List ℕ} {next : ThreadId} (C : Carried first bytes out end i now replies next) (over : end ≤ i) (e : end ≡ min most (count_of bytes)) (accepted : refusedb bytes ≡ false) where
@@ -136,47 +136,40 @@ loop-i-init c =
 pub loop-i-preserved-in_default : goal.loop-i-preserved-in_default
 loop-i-preserved-in_default c =
     let a = c.args in
-    unknown a.self a.bytes.now a.replies.now c.loop-i.invariant c.loop-i-test.true c.record_at-r.result c.record_at-r.ensures c.decode-decoded.ensures c.in_default.is c.refusal-in_default.ensures c.put_reply.ensures
+    unknown a.self a.bytes.now a.replies.now c.loop-i.invariant c.loop-i-test.true c.record_at-r.result c.record_at-r.ensures c.decode.ensures c.in_default.is c.refusal-in_default.ensures c.put_reply.ensures
 
 -- ---- the words of the messages, as they are lent
 pub slice_bounds-words-end : goal.slice_bounds-words-end
-slice_bounds-words-end c = lent_within c.args.bytes.now _ _ c.messages-words.ensures c.message_count-m.ensures
+slice_bounds-words-end c = lent_within c.args.bytes.now _ _ c.messages-words.ensures c.message_count.ensures
 
-pub slice_bounds-words-end-in-loop-i : goal.slice_bounds-words-end-in-loop-i
-slice_bounds-words-end-in-loop-i c = lent_within c.args.bytes.now _ _ c.messages-words.ensures c.message_count-m.ensures
-
-pub slice_bounds-step-end : goal.slice_bounds-step-end
-slice_bounds-step-end c = lent_length c.args.bytes.now _ _ c.messages-words.ensures c.message_count-m.ensures
-
-pub slice_bounds-step-end-in-loop-i : goal.slice_bounds-step-end-in-loop-i
-slice_bounds-step-end-in-loop-i c = lent_length c.args.bytes.now _ _ c.messages-words.ensures c.message_count-m.ensures
+pub slice_bounds-messages-end : goal.slice_bounds-messages-end
+slice_bounds-messages-end c = lent_length c.args.bytes.now _ _ c.messages-words.ensures c.message_count.ensures
 
 -- ---- a known call, on the tables of the one answer or the other
-pub loop-i-preserved-then-in_b : goal.loop-i-preserved-then-in_b
-loop-i-preserved-then-in_b c =
-    let a = c.args in
-    let l = c.loop-i in
-    let x = ap (λ (v : Bool). (current v l.a l.b).kernel) c.if-in_b.true in
-    let C = subst (λ (k : Kernel). Carried a.self a.bytes.now a.replies.now c.wanted-end.result l.i k l.replies l.next) x l.invariant in
-    let w = lent-words a.bytes.now _ _ c.messages-words.ensures c.message_count-m.ensures in
-    known a.self a.bytes.now a.replies.now C c.loop-i-test.true c.record_at-r.result c.record_at-r.ensures c.in-Known.call c.decode-decoded.ensures c.in-Known.is w c.step-a.ensures c.reply_of.ensures c.put_reply-then-in_b.ensures
-
 pub loop-i-preserved : goal.loop-i-preserved
 loop-i-preserved c =
     let a = c.args in
     let l = c.loop-i in
-    let x = ap (λ (v : Bool). (current v l.a l.b).kernel) c.if-in_b.false in
-    let C = subst (λ (k : Kernel). Carried a.self a.bytes.now a.replies.now c.wanted-end.result l.i k l.replies l.next) x l.invariant in
-    let w = lent-words a.bytes.now _ _ c.messages-words.ensures c.message_count-m.ensures in
-    known a.self a.bytes.now a.replies.now C c.loop-i-test.true c.record_at-r.result c.record_at-r.ensures c.in-Known.call c.decode-decoded.ensures c.in-Known.is w c.step-b.ensures c.reply_of-in-loop-i.ensures c.put_reply-in-loop-i.ensures
+    let r = c.record_at-r in
+    let after = c.if-in_b in
+    let before : Bool → Type 0 = λ v. Carried a.self a.bytes.now a.replies.now c.wanted-end.result l.i (current v l.a l.b).kernel l.replies l.next in
+    let then : Bool → Type 0 = λ v. Carried a.self a.bytes.now a.replies.now c.wanted-end.result (l.i + 1) (current (not v) after.a after.b).kernel after.replies after.next in
+    let lent = lent-words a.bytes.now _ _ c.messages-words.ensures c.message_count.ensures in
+    elim after.branch [
+      | then-in_b w ↦ subst then (sym w.if-in_b.true)
+          (known a.self a.bytes.now a.replies.now (subst before w.if-in_b.true l.invariant) c.loop-i-test.true r.result r.ensures c.in-Some.call c.decode.ensures c.in-Some.is lent
+          (w.a-is ∙ w.step-a.ensures) (w.from.ensures ∙ ap reply_of (sym w.a-is)) (w.replies-is ∙ w.put_reply-then-in_b.ensures) (w.next-is ∙ ap (λ (x : Answer). x.next) (sym w.a-is)))
+      | else-in_b w ↦ subst then (sym w.if-in_b.false)
+          (known a.self a.bytes.now a.replies.now (subst before w.if-in_b.false l.invariant) c.loop-i-test.true r.result r.ensures c.in-Some.call c.decode.ensures c.in-Some.is lent
+          (w.b-is ∙ w.step-b.ensures) (w.from-else-in_b.ensures ∙ ap reply_of (sym w.b-is)) (w.replies-is ∙ w.put_reply-else-in_b.ensures) (w.next-is ∙ ap (λ (x : Answer). x.next) (sym w.b-is)))
+    ]
 
 -- ---- the end: the tables of the answer that was last
 pub returns-then-in_b-2 : goal.returns-then-in_b-2
 returns-then-in_b-2 c =
     let a = c.args in
     let l = c.loop-i in
-    let x = ap (λ (v : Bool). (current v l.a l.b).kernel) c.if-in_b-2.true in
-    let C = subst (λ (k : Kernel). Carried a.self a.bytes.now a.replies.now c.wanted-end.result l.i k l.replies l.next) x l.invariant in
+    let C = subst (λ (v : Bool). Carried a.self a.bytes.now a.replies.now c.wanted-end.result l.i (current v l.a l.b).kernel l.replies l.next) c.if-in_b-2.true l.invariant in
     let r = sym c.is_refused.ensures ∙ c.if-is_refused.false in
     let s = sym c.is_sound.ensures ∙ c.if-not-is_sound.false in
     record {
@@ -184,12 +177,11 @@ returns-then-in_b-2 c =
       replies_after = replies-ran a.self a.bytes.now a.replies.now a.most C c.loop-i-test.false c.wanted-end.ensures r;
     }
 
-pub returns : goal.returns
-returns c =
+pub returns-else-in_b-2 : goal.returns-else-in_b-2
+returns-else-in_b-2 c =
     let a = c.args in
     let l = c.loop-i in
-    let x = ap (λ (v : Bool). (current v l.a l.b).kernel) c.if-in_b-2.false in
-    let C = subst (λ (k : Kernel). Carried a.self a.bytes.now a.replies.now c.wanted-end.result l.i k l.replies l.next) x l.invariant in
+    let C = subst (λ (v : Bool). Carried a.self a.bytes.now a.replies.now c.wanted-end.result l.i (current v l.a l.b).kernel l.replies l.next) c.if-in_b-2.false l.invariant in
     let r = sym c.is_refused.ensures ∙ c.if-is_refused.false in
     let s = sym c.is_sound.ensures ∙ c.if-not-is_sound.false in
     record {

@@ -2,7 +2,7 @@
 use mathlib.Core.Path.{◌≡◌}
 use mathlib.Core.List.{List}
 use mathlib.Core.Bool.{Bool, true, false}
-use Prim.Native.Nat.{ℕ, ◌≤◌, ◌-◌}
+use Prim.Native.Nat.{ℕ, ◌≤◌}
 use lib.ListN.{take}
 use Rattle.numbers.specs.declared.ThreadId.{ThreadId}
 use Rattle.tape.specs.Tapes.{count_of, records_of, messages_of}
@@ -29,6 +29,3 @@ pub record Carried (first : Kernel) (bytes out : List ℕ) (end i : ℕ) (now : 
 
 abbrev pub invariant-loop-i : goal.invariant-loop-i
 invariant-loop-i l = Carried l.fn.self l.bytes l.fn.replies l.end l.i (current l.in_b l.a l.b).kernel l.replies l.next
-
-abbrev pub decreases-loop-i : goal.decreases-loop-i
-decreases-loop-i l = l.end - l.i

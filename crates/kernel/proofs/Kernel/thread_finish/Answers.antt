@@ -1,20 +1,21 @@
+use mathlib.Core.Path.{sym, ◌≡◌, ◌∙◌}
 use Rattle.scheduler.specs.Orders.{joined}
-use mathlib.Core.Path.{sym, ◌∙◌}
-use Rattle.kernel.specs.Tables.{with_scheduler, with_held}
+use Rattle.calls.specs.Chains.{thread_only_refusal}
 use Rattle.kernel.specs.Answers.{answer_of}
+use Rattle.kernel.specs.Edits.{applied, carried_out, edited, endsb, frontb, gathered, held_by, record_by, status_of}
 use Rattle.kernel.specs.Loops.{answered}
-use Rattle.kernel.specs.Edits.{record_by, held_by, frontb, edited, applied, gathered, endsb, status_of, carried_out}
+use Rattle.kernel.specs.Tables.{with_held, with_scheduler}
 use Rattle.kernel.specs.Threads.{rest_effect}
 use Rattle.kernel.proofs.Laws.Answers.{is_carried}
 use Rattle.kernel.proofs.Laws.Arms.{refused_by}
 use Rattle.kernel.proofs.Kernel.thread_finish.Goals as goal
 
-pub returns-then-reason-ne0 : goal.returns-then-reason-ne0
-returns-then-reason-ne0 c = refused_by _ _ c.refused.ensures c.thread_only-reason.ensures c.if-reason-ne0.true
+pub returns-in-Err : goal.returns-in-Err
+returns-in-Err c = refused_by _ _ _ c.refused.ensures c.from.ensures c.in-Err.ensures
 
 pub returns : goal.returns
 unfolding carried_out applied gathered status_of answer_of answered with_scheduler edited record_by held_by frontb endsb joined with_held rest_effect
 returns c =
-    let z = sym c.thread_only-reason.ensures ∙ c.if-reason-ne0.false in
-    rw (is_carried, ← c.thread_at-th.ensures)
-    (c.held_carried.ensures ∙ rw (c.moved.ensures, c.of.ensures, c.at_rest-ended.ensures))
+    let a = c.args in
+    let z : thread_only_refusal a.caller ≡ 0 = sym c.in_default.ensures in
+    rw is_carried (c.moved.ensures ∙ rw (c.at_rest.ensures, c.thread_at.ensures))

@@ -1,42 +1,28 @@
+use mathlib.Core.Path.{◌≡◌, ◌∙◌}
 use Rattle.scheduler.specs.Orders.{joined}
-use mathlib.Core.Path.{◌≡◌, sym, ◌∙◌}
 use Rattle.calls.specs.Chains.{terminate_refusal}
-use Rattle.kernel.specs.Tables.{thread_of, with_scheduler, with_held}
 use Rattle.kernel.specs.Answers.{answer_of}
+use Rattle.kernel.specs.Edits.{applied, carried_out, edited, endsb, frontb, gathered, held_by, record_by, status_of}
 use Rattle.kernel.specs.Loops.{answered}
-use Rattle.kernel.specs.Edits.{record_by, held_by, frontb, edited, applied, gathered, endsb, status_of, carried_out}
+use Rattle.kernel.specs.Tables.{thread_of, with_held, with_scheduler}
 use Rattle.kernel.specs.Threads.{terminate_effect}
 use Rattle.kernel.proofs.Laws.Answers.{is_carried}
 use Rattle.kernel.proofs.Laws.Arms.{refused_by}
 use Rattle.kernel.proofs.Kernel.thread_terminate.Goals as goal
 
-module _ (c : goal.After-refused) where
-  -- the reason that is found is that of the definition
-  reason-1 : let a = c.args in c.terminate-reason.result ≡ terminate_refusal (thread_of a.self a.t.0) a.caller
-  reason-1 = rw (← c.thread_at-th.ensures) c.terminate-reason.ensures
-
-module _ (c : goal.After-carried) where
-  -- the reason that is found is that of the definition
-  reason-2 : let a = c.args in c.terminate-reason.result ≡ terminate_refusal (thread_of a.self a.t.0) a.caller
-  reason-2 = rw (← c.thread_at-th.ensures) c.terminate-reason.ensures
-
-module _ (c : goal.After-held_carried) where
-  -- the reason that is found is that of the definition
-  reason : let a = c.args in c.terminate-reason.result ≡ terminate_refusal (thread_of a.self a.t.0) a.caller
-  reason = rw (← c.thread_at-th.ensures) c.terminate-reason.ensures
-
-pub returns-then-reason-ne0 : goal.returns-then-reason-ne0
-returns-then-reason-ne0 c = refused_by _ _ c.refused.ensures (reason-1 c) c.if-reason-ne0.true
+pub returns-in-Err : goal.returns-in-Err
+returns-in-Err c = refused_by _ _ _ c.refused.ensures c.from.ensures (cc c.in-Err.ensures)
 
 pub returns-then-th : goal.returns-then-th
 unfolding carried_out applied gathered status_of answer_of answered with_scheduler terminate_effect
 returns-then-th c =
-    let z = sym (reason-2 c) ∙ c.if-reason-ne0.false in
+    let a = c.args in
+    let z : terminate_refusal (thread_of a.self a.t.0) a.caller ≡ 0 = cc c.in_default.ensures in
     rw (is_carried, ← c.thread_at-th.ensures, c.if-th.true) c.carried.ensures
 
 pub returns : goal.returns
 unfolding carried_out applied gathered status_of answer_of answered with_scheduler edited record_by held_by frontb endsb joined with_held terminate_effect
 returns c =
-    let z = sym (reason c) ∙ c.if-reason-ne0.false in
-    rw (is_carried, ← c.thread_at-th.ensures, c.if-th.false)
-    (c.held_carried.ensures ∙ rw (c.moved.ensures, c.of.ensures, c.at_rest-ended.ensures, c.thread_at-th.ensures))
+    let a = c.args in
+    let z : terminate_refusal (thread_of a.self a.t.0) a.caller ≡ 0 = cc c.in_default.ensures in
+    rw (is_carried, ← c.thread_at-th.ensures, c.if-th.false) (c.moved.ensures ∙ rw (c.at_rest.ensures, c.thread_at-th.ensures))

@@ -1,31 +1,21 @@
-use Rattle.scheduler.specs.Orders.{joined}
-use Rattle.scheduler.specs.Orders.{woken}
-use mathlib.Core.Path.{◌≡◌, sym, ◌∙◌}
+use mathlib.Core.Path.{◌≡◌, ◌∙◌}
+use Rattle.scheduler.specs.Orders.{joined, woken}
 use Rattle.calls.specs.Chains.{abort_refusal}
-use Rattle.kernel.specs.Tables.{thread_of, with_scheduler, with_held}
 use Rattle.kernel.specs.Answers.{answer_of}
+use Rattle.kernel.specs.Edits.{applied, carried_out, edited, endsb, frontb, gathered, held_by, record_by, status_by, status_of}
 use Rattle.kernel.specs.Loops.{answered}
-use Rattle.kernel.specs.Edits.{status_by, record_by, held_by, frontb, edited, applied, gathered, endsb, status_of, carried_out}
+use Rattle.kernel.specs.Tables.{thread_of, with_held, with_scheduler}
 use Rattle.kernel.specs.Threads.{abort_effect}
 use Rattle.kernel.proofs.Laws.Answers.{is_carried}
 use Rattle.kernel.proofs.Laws.Arms.{refused_by}
 use Rattle.kernel.proofs.Kernel.thread_wait_abort.Goals as goal
 
-module _ (c : goal.After-refused) where
-  -- the reason that is found is that of the definition
-  reason-1 : let a = c.args in c.abort-reason.result ≡ abort_refusal (thread_of a.self a.t.0)
-  reason-1 = rw (← c.thread_at.ensures) c.abort-reason.ensures
-
-module _ (c : goal.After-held_carried) where
-  -- the reason that is found is that of the definition
-  reason : let a = c.args in c.abort-reason.result ≡ abort_refusal (thread_of a.self a.t.0)
-  reason = rw (← c.thread_at.ensures) c.abort-reason.ensures
-
-pub returns-then-reason-ne0 : goal.returns-then-reason-ne0
-returns-then-reason-ne0 c = refused_by _ _ c.refused.ensures (reason-1 c) c.if-reason-ne0.true
+pub returns-in-Err : goal.returns-in-Err
+returns-in-Err c = refused_by _ _ _ c.refused.ensures c.from.ensures (cc c.in-Err.ensures)
 
 pub returns : goal.returns
 unfolding carried_out applied gathered status_of answer_of answered with_scheduler edited record_by held_by frontb endsb joined with_held status_by woken abort_effect
 returns c =
-    let z = sym (reason c) ∙ c.if-reason-ne0.false in
-    rw is_carried (c.held_carried.ensures ∙ rw (c.woken.ensures, c.of.ensures))
+    let a = c.args in
+    let z : abort_refusal (thread_of a.self a.t.0) ≡ 0 = cc c.in_default.ensures in
+    rw is_carried (c.carried.ensures ∙ rw (c.woken.ensures, c.store.ensures, c.of.ensures))

@@ -1,5 +1,3 @@
-use Rattle.scheduler.specs.Orders.{joined}
-use Rattle.scheduler.specs.Orders.{woken}
 use mathlib.Core.Path.{◌≡◌, refl, sym, ap, ap₂, ◌∙◌}
 use mathlib.Core.Bool.{Bool}
 use mathlib.Core.List.{List, [], ◌∷◌, ◌++◌, append-nil}
@@ -10,10 +8,11 @@ use Rattle.lines.specs.Logic.{one_if}
 use Rattle.scheduler.specs.declared.thread.Thread.{Thread}
 use Rattle.scheduler.specs.declared.Scheduler.{Scheduler}
 use Rattle.scheduler.specs.Threads.{uncreated}
-use Rattle.scheduler.specs.Orders.{thread_at, with_thread}
+use Rattle.scheduler.specs.Orders.{thread_at, with_thread, joined, woken}
+use Rattle.scheduler.proofs.Laws.Threads.{length_mapped}
+use Rattle.calls.specs.Chains.{tick_refusal}
 use Rattle.calls.specs.Held.{no_words, no_held}
 use Rattle.waiting.specs.Ticks.{next_time, timedb, timeout_status, with_ticks, last_tickb}
-use Rattle.scheduler.proofs.Laws.Threads.{length_mapped}
 use Rattle.kernel.specs.declared.Kernel.{Kernel}
 use Rattle.kernel.specs.Tables.{thread_of, held_at, with_scheduler, with_held, with_clock}
 use Rattle.kernel.specs.Answers.{answer_of}
@@ -29,6 +28,7 @@ use Rattle.kernel.proofs.Laws.Answers.{is_carried}
 use Rattle.kernel.proofs.Laws.Arms.{refused_by, carried_as}
 use Rattle.kernel.proofs.Laws.Reads.{read_inside}
 use Rattle.kernel.proofs.Kernel.tick.Goals as goal
+use Rattle.kernel.proofs.Kernel.tick.Goals.{then-is_last_tick, else-is_last_tick+then-is_timed, else-is_last_tick+else-is_timed}
 
 -- ---- a turn of the loop
 -- the tables after the ticks of the threads before t
@@ -53,33 +53,13 @@ counted start t ended so-far x =
     let o = ap one_if (ap last_tickb (sym (below_other start t t (omega arith))) ∙ x) in
     omega (arith, so-far, more-ended start t, o)
 
-pub returns-then-reason-ne0 : goal.returns-then-reason-ne0
+pub returns-in-Err : goal.returns-in-Err
 unfolding ticks_below applied gathered with_scheduler
-returns-then-reason-ne0 c = refused_by _ _ c.refused.ensures c.tick-reason.ensures c.if-reason-ne0.true
+returns-in-Err c = refused_by _ _ _ c.refused.ensures c.from.ensures (cc c.in-Err.ensures)
 
 pub loop-t-init : goal.loop-t-init
 unfolding ticks_below applied gathered with_scheduler
-loop-t-init c = (omega arith, search length_mapped, search length_mapped, refl, refl, omega arith)
-
-pub loop-t-preserved-then-is_last_tick : goal.loop-t-preserved-then-is_last_tick
-unfolding with_scheduler with_held edited record_by held_by frontb status_by joined woken thread_at held_at one_if
-loop-t-preserved-then-is_last_tick c =
-    let l = c.loop-t in
-    let i = l.invariant in
-    let start : Kernel = with_scheduler c.args.self c.args.self.scheduler in
-    let w = below start l.t in
-    let x = tested start l.k l.s l.t c.loop-t-test.true i.2 i.3 last_tickb _ (sym c.is_last_tick.ensures ∙ c.if-is_last_tick.true) in
-    let n = counted start l.t l.ended i.4 x in
-    let h = read_inside l.k.held l.t _ no_held c.loop-t-test.true i.1 in
-    let f = c.timeout_status.ensures ∙ ap₂ timeout_status (thread l.s l.t c.loop-t-test.true i.2 _) h in
-    let e = ap (λ (v : Kernel). edited v (moves l.t (ends timed_out no_words))) i.3 in (
-      omega arith,
-      simp length-set i.1,
-      woken_sized l.s l.t c.woken-s.result c.woken-s.ensures i.2,
-      rw (c.woken-s.ensures, c.of-h.ensures, f) (e ∙ sym (tick_last w l.t (thread_of w l.t) x) ∙ sym (more-below start l.t)),
-      omega (arith, n),
-      omega arith,
-    )
+loop-t-init c = (search length_mapped, search length_mapped, refl, refl, omega arith)
 
 pub overflow_sub-th : goal.overflow_sub-th
 unfolding thread_at
@@ -89,48 +69,57 @@ overflow_sub-th c =
     let w = ticks_left _ g f in
     omega (arith, w)
 
-pub loop-t-preserved-then-is_timed : goal.loop-t-preserved-then-is_timed
-unfolding with_scheduler edited with_thread thread_at one_if
-loop-t-preserved-then-is_timed c =
-    let l = c.loop-t in
-    let i = l.invariant in
-    let start : Kernel = with_scheduler c.args.self c.args.self.scheduler in
-    let w = below start l.t in
-    let x = tested start l.k l.s l.t c.loop-t-test.true i.2 i.3 last_tickb _ (sym c.is_last_tick.ensures ∙ c.if-is_last_tick.false) in
-    let g = tested start l.k l.s l.t c.loop-t-test.true i.2 i.3 timedb _ (sym c.is_timed.ensures ∙ c.if-is_timed.true) in
-    let n = counted start l.t l.ended i.4 x in
-    let f = c.with_ticks-later.ensures ∙ ap (λ (w : Thread). with_ticks (w.ticks - 1) w) (thread l.s l.t c.loop-t-test.true i.2 _) in
-    let e = ap (λ (v : Kernel). edited v (counts l.t)) i.3 in (
-      omega arith,
-      i.1,
-      simp length-set i.2,
-      rw f (e ∙ sym (tick_timed w l.t (thread_of w l.t) x g) ∙ sym (more-below start l.t)),
-      omega (arith, n),
-      omega arith,
-    )
-
 pub loop-t-preserved : goal.loop-t-preserved
-unfolding with_scheduler thread_at one_if
+unfolding with_scheduler with_held edited record_by held_by frontb status_by joined woken with_thread thread_at held_at one_if
 loop-t-preserved c =
     let l = c.loop-t in
     let i = l.invariant in
     let start : Kernel = with_scheduler c.args.self c.args.self.scheduler in
     let w = below start l.t in
-    let x = tested start l.k l.s l.t c.loop-t-test.true i.2 i.3 last_tickb _ (sym c.is_last_tick.ensures ∙ c.if-is_last_tick.false) in
-    let g = tested start l.k l.s l.t c.loop-t-test.true i.2 i.3 timedb _ (sym c.is_timed.ensures ∙ c.if-is_timed.false) in
-    let n = counted start l.t l.ended i.4 x in
-    let e = i.3 ∙ sym (tick_none w l.t (thread_of w l.t) x g) ∙ sym (more-below start l.t) in
-    (omega arith, i.1, i.2, e, omega (arith, n), omega arith)
+    let th = thread l.s l.t c.loop-t-test.true i.1 in
+    elim c.if-is_last_tick.branch [
+      | then-is_last_tick b ↦ let x = tested start l.self l.s l.t c.loop-t-test.true i.1 i.2 last_tickb _ (sym c.is_last_tick.ensures ∙ b.if-is_last_tick.true) in
+          let n = counted start l.t l.ended i.3 x in
+          let h = read_inside l.self.held l.t _ no_held c.loop-t-test.true i.0 in
+          let f = b.timeout_status-status.ensures ∙ ap₂ timeout_status (th _) h in
+          let e = ap (λ (v : Kernel). edited v (moves l.t (ends timed_out no_words))) i.2 in (
+            ap (λ (v : Kernel). length v.held) b.self-is ∙ simp length-set i.0,
+            woken_sized l.s l.t _ (b.s-is ∙ b.woken-s.ensures) i.1,
+            (λ j. with_scheduler (b.self-is j) (b.s-is j)) ∙ rw (b.woken-s.ensures, b.of.ensures, f) (e ∙ sym (tick_last w l.t (thread_of w l.t) x) ∙ sym (more-below start l.t)),
+            omega (arith, n, b.ended-is),
+            omega (arith, b.ended-is),
+          )
+      | else-is_last_tick+then-is_timed b ↦ let x = tested start l.self l.s l.t c.loop-t-test.true i.1 i.2 last_tickb _ (sym c.is_last_tick.ensures ∙ b.if-is_last_tick.false) in
+          let g = tested start l.self l.s l.t c.loop-t-test.true i.1 i.2 timedb _ (sym b.is_timed.ensures ∙ b.if-is_timed.true) in
+          let n = counted start l.t l.ended i.3 x in
+          let f = b.with_ticks.ensures ∙ ap (λ (w : Thread). with_ticks (w.ticks - 1) w) (th _) in
+          let e = ap (λ (v : Kernel). edited v (counts l.t)) i.2 in (
+            ap (λ (v : Kernel). length v.held) b.self-is ∙ i.0,
+            ap (λ (v : Scheduler). length v.threads) b.s-is ∙ simp length-set i.1,
+            (λ j. with_scheduler (b.self-is j) (b.s-is j)) ∙ rw f (e ∙ sym (tick_timed w l.t (thread_of w l.t) x g) ∙ sym (more-below start l.t)),
+            omega (arith, n, b.ended-is),
+            omega (arith, b.ended-is),
+          )
+      | else-is_last_tick+else-is_timed b ↦ let x = tested start l.self l.s l.t c.loop-t-test.true i.1 i.2 last_tickb _ (sym c.is_last_tick.ensures ∙ b.if-is_last_tick.false) in
+          let g = tested start l.self l.s l.t c.loop-t-test.true i.1 i.2 timedb _ (sym b.is_timed.ensures ∙ b.if-is_timed.false) in
+          let n = counted start l.t l.ended i.3 x in (
+            ap (λ (v : Kernel). length v.held) b.self-is ∙ i.0,
+            ap (λ (v : Scheduler). length v.threads) b.s-is ∙ i.1,
+            (λ j. with_scheduler (b.self-is j) (b.s-is j)) ∙ i.2 ∙ sym (tick_none w l.t (thread_of w l.t) x g) ∙ sym (more-below start l.t),
+            omega (arith, n, b.ended-is),
+            omega (arith, b.ended-is),
+          )
+    ]
 
 pub returns : goal.returns
 unfolding one_pass applied edited gathered with_scheduler with_clock
 returns c =
     let a = c.args in
     let l = c.loop-t in
-    let w = sym c.tick-reason.ensures ∙ c.if-reason-ne0.false in
+    let w : tick_refusal a.caller ≡ 0 = cc c.in_default.ensures in
     let i : l.t ≡ 32 = omega arith in
-    let y = rw i at l.invariant.3 in
-    let m = rw i at l.invariant.4 in
+    let y = rw i at l.invariant.2 in
+    let m = rw i at l.invariant.3 in
     let clock = sets (next_time a.self.clock) ∷ [] in
     let es = ticks_below 32 a.self in
     let e = ap (λ (x : Kernel). with_clock x (next_time a.self.clock)) y ∙ sym (applied-append a.self es clock) in

@@ -1,5 +1,4 @@
 use mathlib.Core.Path.{◌∙◌}
-use borrow.Author.Rules.{rules}
 use Rattle.kernel.specs.Tables.{with_scheduler}
 use Rattle.kernel.specs.Answers.{answer_of}
 use Rattle.kernel.specs.Loops.{answered}
@@ -7,14 +6,6 @@ use Rattle.kernel.specs.Edits.{applied, gathered, status_of, carried_out, guarde
 use Rattle.kernel.specs.Clock.{clock_effect}
 use Rattle.kernel.proofs.Kernel.time_get.Goals as goal
 
-pub two_words-words-requires : goal.two_words-words-requires
-unfolding guarded clock_effect carried_out applied gathered status_of answer_of answered with_scheduler
-two_words-words-requires c = search rules
-
-pub carried-requires : goal.carried-requires
-unfolding guarded clock_effect carried_out applied gathered status_of answer_of answered with_scheduler
-carried-requires c = search rules
-
 pub returns : goal.returns
 unfolding guarded clock_effect carried_out applied gathered status_of answer_of answered with_scheduler
-returns c = c.carried.ensures ∙ rw c.two_words-words.ensures
+returns c = c.carried.ensures ∙ rw c.two_words.ensures

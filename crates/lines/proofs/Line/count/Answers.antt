@@ -1,49 +1,38 @@
 use mathlib.Core.Path.{◌≡◌, refl, ap, ◌∙◌}
-use Prim.Native.Nat.{ℕ, ◌<◌}
 use native.Mathlib.Omega.{arith}
 use borrow.Author.Rules.{rules}
 use borrow.Author.Tests.{eq-eqb, ne_eqb}
-use lib.ListN.{length, take, get_or}
-use lib.Dec.{eqb}
+use lib.ListN.{take, get_or, length}
+use Rattle.std.proofs.lemmas.List.{take_all, take_more}
 use Rattle.lines.specs.Logic.{one_if}
 use Rattle.lines.specs.Lists.{count}
-use Rattle.lines.specs.Lines.{members}
 use Rattle.lines.proofs.Laws.Lists.{count_one}
-use Rattle.lines.proofs.Laws.Lines.{take_one, members-take, length-members}
+use Rattle.lines.proofs.Laws.Lines.{length-members}
 use Rattle.lines.proofs.Line.count.Goals as goal
+use Rattle.lines.proofs.Line.count.Goals.{then-x-t, else-x-t}
 
-pub loop-i-init : goal.loop-i-init
+pub loop-x-init : goal.loop-x-init
 unfolding count
-loop-i-init c =
+loop-x-init c = (refl, omega arith)
+
+pub overflow_add-k : goal.overflow_add-k
+overflow_add-k c =
     let e : length c.args.self.ids ≡ 32 = search rules in
-    let w = length-members c.args.self e in
-    (search rules, omega (arith, c.size-n.ensures, w), e, refl, search rules)
+    omega (arith, length-members c.args.self e, ap length c.as_slice-x-items.ensures)
 
-pub loop-i-preserved-then-x-t : goal.loop-i-preserved-then-x-t
+pub loop-x-preserved : goal.loop-x-preserved
 unfolding one_if
-loop-i-preserved-then-x-t c =
-    let l = c.loop-i in
-    let a = c.args in
-    let h : l.i < length a.self.ids = omega arith in
-    let o = count_one a.t.0 (get_or a.self.ids l.i 0) (take l.i a.self.ids) in
-    let q = eq-eqb (get_or a.self.ids l.i 0) a.t.0 c.if-x-t.true in
-    let w : one_if (eqb (get_or a.self.ids l.i 0) a.t.0) ≡ 1 = ap one_if q in
-    (omega arith, omega arith, l.invariant.2, rw (take_one a.self.ids l.i h) (omega (arith, o, w, l.invariant.3)), omega arith)
-
-pub loop-i-preserved : goal.loop-i-preserved
-unfolding one_if
-loop-i-preserved c =
-    let l = c.loop-i in
-    let a = c.args in
-    let h : l.i < length a.self.ids = omega arith in
-    let o = count_one a.t.0 (get_or a.self.ids l.i 0) (take l.i a.self.ids) in
-    let q = ne_eqb (get_or a.self.ids l.i 0) a.t.0 c.if-x-t.false in
-    let w : one_if (eqb (get_or a.self.ids l.i 0) a.t.0) ≡ 0 = ap one_if q in
-    (omega arith, omega arith, l.invariant.2, rw (take_one a.self.ids l.i h) (omega (arith, o, w, l.invariant.3)), omega arith)
+loop-x-preserved c =
+    let i = c.loop-x.x-index in
+    let xs = c.as_slice-x-items.result.now in
+    let t = c.args.t.0 in
+    let x = get_or xs i 0 in
+    let m = ap (count t) (take_more xs i 0 c.loop-x-test.true) in
+    let o = count_one t x (take i xs) in
+    elim c.if-x-t.branch [
+      | then-x-t w ↦ let q = ap one_if (eq-eqb x t w.if-x-t.true) in (omega (arith, m, o, q), omega arith)
+      | else-x-t w ↦ let q = ap one_if (ne_eqb x t w.if-x-t.false) in (omega (arith, m, o, q), omega arith)
+    ]
 
 pub returns : goal.returns
-returns c =
-    let l = c.loop-i in
-    let a = c.args in
-    let n : l.i ≡ length (members a.self) = omega (arith, c.size-n.ensures) in
-    l.invariant.3 ∙ ap (count a.t.0) (ap (λ (k : ℕ). take k a.self.ids) n ∙ members-take a.self)
+returns c = c.loop-x.invariant.0 ∙ ap (count c.args.t.0) (take_all _ _ c.loop-x-test.false ∙ c.as_slice-x-items.ensures)

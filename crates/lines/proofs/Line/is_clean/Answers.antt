@@ -1,30 +1,30 @@
 use mathlib.Core.Path.{◌≡◌}
-use Prim.Native.Nat.{min}
 use native.Mathlib.Omega.{arith}
 use borrow.Author.Rules.{rules}
-use lib.ListN.{length, length-take}
-use Rattle.lines.specs.Lines.{members, cleanb}
-use Rattle.lines.proofs.Laws.Slots.{tail-start, tail_more}
+use Prim.Native.Nat.{◌≤◌}
+use lib.ListN.{length}
+use Rattle.std.proofs.lemmas.List.{take_rest}
+use Rattle.lines.specs.Lines.{cleanb}
+use Rattle.lines.proofs.Laws.Lines.{length-members}
+use Rattle.lines.proofs.Laws.Slots.{zero_behind}
 use Rattle.lines.proofs.Line.is_clean.Goals as goal
 
-pub loop-i-init : goal.loop-i-init
-unfolding members
-loop-i-init c =
+pub slice_bounds-are_blank-count : goal.slice_bounds-are_blank-count
+slice_bounds-are_blank-count c =
     let a = c.args.self in
     let e : length a.ids ≡ 32 = search rules in
-    let m : c.size-n.result ≡ min a.len 32 = omega (arith, c.size-n.ensures, length-take a.len a.ids, e) in
-    (omega arith, omega (arith, m), e, m, tail-start c.size-n.result a.len a.ids (omega (arith, m)))
+    omega (arith, c.size-n.ensures, length-members a e)
 
-pub loop-i-preserved : goal.loop-i-preserved
-loop-i-preserved c =
+pub slice_bounds-are_blank-start : goal.slice_bounds-are_blank-start
+slice_bounds-are_blank-start c =
     let a = c.args.self in
-    let l = c.loop-i in
-    let i = l.invariant in
-    (omega arith, omega arith, i.2, i.3, tail_more l.any l.i a.len a.ids (omega (arith, i.3)) i.4)
+    let e : length a.ids ≡ 32 = search rules in
+    let n : c.size-n.result ≤ 32 = omega (arith, c.size-n.ensures, length-members a e) in
+    search rules
 
 pub returns : goal.returns
 unfolding cleanb
 returns c =
-    let l = c.loop-i in
-    let e : l.i ≡ 32 = omega arith in
-    rw (l.invariant.4, e)
+    let a = c.args.self in
+    let e : length a.ids ≡ 32 = search rules in
+    rw (c.are_blank.ensures, take_rest a.ids c.size-n.result) (rw (zero_behind a.len c.size-n.result 32 a.ids e (omega (arith, c.size-n.ensures, length-members a e, e))))

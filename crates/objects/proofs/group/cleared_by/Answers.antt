@@ -1,10 +1,12 @@
+use Rattle.std.proofs.Common.{arith}
+use Rattle.std.proofs.lemmas.Bool.Decides.{nat_tests}
 use Rattle.objects.specs.Groups.{clearsb, clear_of}
 use Rattle.objects.proofs.group.cleared_by.Goals as goal
 
-pub returns-then-option : goal.returns-then-option
+pub returns-in-1 : goal.returns-in-1
 unfolding clear_of clearsb
-returns-then-option c = rw c.if-option.true
+returns-in-1 c = grind (arith, nat_tests)
 
-pub returns-else-option : goal.returns-else-option
+pub returns-in_default : goal.returns-in_default
 unfolding clear_of clearsb
-returns-else-option c = rw c.if-option.false
+returns-in_default c = grind (arith, nat_tests)

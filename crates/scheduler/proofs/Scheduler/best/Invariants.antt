@@ -1,14 +1,8 @@
-use mathlib.Core.Path.{◌≡◌}
-use Prim.Native.Nat.{◌≤◌}
-use lib.ListN.{length, take, drop}
-use Rattle.lines.specs.Lists.{filter}
-use Rattle.lines.proofs.Laws.Bests.{Found}
-use Rattle.scheduler.specs.Orders.{thread_at, priority_at}
-use Rattle.scheduler.specs.Loops.{wantedb}
+use Rattle.std.proofs.Common.{Bool}
+use Rattle.scheduler.specs.declared.thread.Thread.{Thread}
+use Rattle.scheduler.specs.Loops.{Computes}
+use Rattle.scheduler.proofs.Laws.Loops.{Passed}
 use Rattle.scheduler.proofs.Scheduler.best.Given as goal
 
-abbrev pub invariant-loop-i : goal.invariant-loop-i
-invariant-loop-i l = (l.i ≤ l.initial.i) × (l.initial.i ≤ 32) × (length l.ids ≡ 32) × Found (priority_at l.self) (filter (λ t. wantedb l.among (thread_at l.self t)) (drop l.i (take l.initial.i l.ids))) l.b
-
-abbrev pub decreases-loop-i : goal.decreases-loop-i
-decreases-loop-i l = l.i
+abbrev pub invariant-loop-x : goal.invariant-loop-x
+invariant-loop-x g l = (f : Thread → Bool) → Computes (goal.F-post g l.wanted) l.self f → Passed l.self f l.x-iterator.iter.rest.now l.b

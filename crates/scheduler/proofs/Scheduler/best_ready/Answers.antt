@@ -1,12 +1,10 @@
 use borrow.Author.Rules.{rules}
-use Rattle.scheduler.specs.Choice.{best_among, best_ready}
-use Rattle.scheduler.specs.Loops.{wantedb}
+use Rattle.std.proofs.Common.{tests}
+use Rattle.scheduler.specs.Threads.{readyb}
+use Rattle.scheduler.specs.Choice.{best_ready}
+use Rattle.scheduler.proofs.Laws.Threads.{none-ready}
 use Rattle.scheduler.proofs.Scheduler.best_ready.Goals as goal
 
-pub best-requires : goal.best-requires
-unfolding best_ready best_among wantedb
-best-requires c = search rules
-
 pub returns : goal.returns
-unfolding best_ready best_among wantedb
-returns c = search rules
+unfolding best_ready
+returns c = c.best.ensures readyb (none-ready, λ t b l k. search (rules, tests))

@@ -1,11 +1,10 @@
-use native.Mathlib.Omega.{arith}
 use Rattle.scheduler.specs.Loops.{considered_of}
 use Rattle.scheduler.proofs.choice.considered.Goals as goal
 
-pub returns-then-is_wanted : goal.returns-then-is_wanted
+pub returns-then-wanted-clause-best : goal.returns-then-wanted-clause-best
 unfolding considered_of
-returns-then-is_wanted c = record { best = rw (← c.is_wanted.ensures, c.if-is_wanted.true) c.better.ensures; in_byte = omega arith }
+returns-then-wanted-clause-best c = rw c.if-wanted.true c.better.ensures
 
-pub returns-else-is_wanted : goal.returns-else-is_wanted
+pub returns-else-wanted-clause-best : goal.returns-else-wanted-clause-best
 unfolding considered_of
-returns-else-is_wanted c = record { best = rw (← c.is_wanted.ensures, c.if-is_wanted.false); in_byte = omega arith }
+returns-else-wanted-clause-best c = rw c.if-wanted.false

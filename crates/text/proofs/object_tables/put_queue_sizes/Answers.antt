@@ -4,4 +4,7 @@ use Rattle.text.proofs.object_tables.put_queue_sizes.Goals as goal
 
 pub returns : goal.returns
 unfolding queue_sizes_text
-returns g c = put-append (put-append (put-append c.put_field-at.ensures c.put_field-at-2.ensures) c.put_field-at-3.ensures) (rw c.capacity.ensures at c.put_field.ensures)
+returns g c =
+    put-append
+    (put-append (put-append (rw c.from.ensures at c.put_field.ensures) (rw c.from-2.ensures at c.put_field-2.ensures)) (rw c.from-3.ensures at c.put_field-3.ensures))
+    (rw (c.from-4.ensures, c.capacity.ensures) at c.put_field-4.ensures)

@@ -4,4 +4,7 @@ use Rattle.text.proofs.thread_table.put_levels.Goals as goal
 
 pub returns : goal.returns
 unfolding levels_text
-returns g c = put-append (put-append (put-append c.put_field-at.ensures c.put_field-at-2.ensures) c.put_field-at-3.ensures) c.put_field.ensures
+returns g c =
+    put-append
+    (put-append (put-append c.put_field.ensures (rw c.from.ensures at c.put_field-2.ensures)) (rw c.from-2.ensures at c.put_field-3.ensures))
+    (rw c.from-3.ensures at c.put_field-4.ensures)

@@ -1,7 +1,13 @@
 use Rattle.output.proofs.Laws.Texts.{put-append}
 use Rattle.text.specs.Threads.{request_text}
+use Rattle.text.proofs.Laws.Texts.{bit_is}
 use Rattle.text.proofs.thread_table.put_request.Goals as goal
 
 pub returns : goal.returns
 unfolding request_text
-returns g c = put-append (put-append (put-append c.put_field-at.ensures (rw c.bit.ensures at c.put_field-at-2.ensures)) c.put_field-at-3.ensures) c.put_field.ensures
+returns g c =
+    put-append
+    (put-append
+    (put-append (rw c.from.ensures at c.put_field.ensures) (rw (c.from-2.ensures, bit_is c.args.h.now.front) at c.put_field-2.ensures))
+    c.put_field-3.ensures)
+    (rw c.from-3.ensures at c.put_field-4.ensures)

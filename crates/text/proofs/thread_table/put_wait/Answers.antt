@@ -1,18 +1,16 @@
-use borrow.Author.Tests.{eq-eqb, ne_eqb}
+use Rattle.std.proofs.Common.{arith}
+use borrow.Author.Tests.{ne_eqb}
 use Rattle.text.specs.Threads.{wait_text}
 use Rattle.text.proofs.thread_table.put_wait.Goals as goal
 
-pub returns-then-ticks-eq0 : goal.returns-then-ticks-eq0
+pub returns-in-0 : goal.returns-in-0
 unfolding wait_text
-returns-then-ticks-eq0 g c = rw (eq-eqb c.args.ticks 0 c.if-ticks-eq0.true) c.put_text.ensures
+returns-in-0 g c = rw c.in-0.is c.put_text.ensures
 
-pub returns-then-ticks-eq-FOREVER : goal.returns-then-ticks-eq-FOREVER
+pub returns-in-4294967295 : goal.returns-in-4294967295
 unfolding wait_text
-returns-then-ticks-eq-FOREVER g c =
-    rw (ne_eqb c.args.ticks 0 c.if-ticks-eq0.false, eq-eqb c.args.ticks 4294967295 c.if-ticks-eq-FOREVER.true)
-    c.put_text-then-ticks-eq-FOREVER.ensures
+returns-in-4294967295 g c = rw c.in-4294967295.is c.put_text-in-4294967295.ensures
 
-pub returns : goal.returns
+pub returns-in_default : goal.returns-in_default
 unfolding wait_text
-returns g c =
-    rw (ne_eqb c.args.ticks 0 c.if-ticks-eq0.false, ne_eqb c.args.ticks 4294967295 c.if-ticks-eq-FOREVER.false) c.put_field.ensures
+returns-in_default g c = rw (ne_eqb c.args.ticks 0 (omega arith), ne_eqb c.args.ticks 4294967295 (omega arith)) c.put_field.ensures

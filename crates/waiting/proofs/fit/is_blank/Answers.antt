@@ -1,39 +1,15 @@
-use Rattle.std.proofs.Common.{◌≡◌, ℕ, Bool, ◌&&◌, ◌||◌, eqb, ltb, get_or, ap, ◌∙◌, arith, rules}
-use Rattle.lines.specs.Logic.{all_below}
-use Rattle.lines.proofs.Laws.Logic.{all_more}
+use Rattle.std.proofs.Common.{◌≡◌, ◌-◌, length, take, drop, arith, rules}
+use lib.ListN.{length-drop}
+use lib.Seq.{take_all}
+use Rattle.lines.proofs.Laws.Slots.{zero_behind}
 use Rattle.waiting.specs.Fit.{blank_from}
 use Rattle.waiting.proofs.fit.is_blank.Goals as goal
-
-pub loop-i-init : goal.loop-i-init
-unfolding all_below
-loop-i-init c = search rules
-
-pub offset_bounds-words-i : goal.offset_bounds-words-i
-unfolding all_below
-offset_bounds-words-i c = search rules
-
-pub bounds-words-i : goal.bounds-words-i
-unfolding all_below
-bounds-words-i c = search rules
-
-pub overflow_add-i : goal.overflow_add-i
-unfolding all_below
-overflow_add-i c = search rules
-
-pub loop-i-smaller : goal.loop-i-smaller
-unfolding all_below
-loop-i-smaller c = search rules
-
-pub loop-i-preserved : goal.loop-i-preserved
-loop-i-preserved c =
-    let l = c.loop-i in
-    let a = c.args in
-    let f : ℕ → Bool = λ k. ltb k a.from || eqb (get_or a.words k 0) 0 in
-    (omega arith, l.invariant.1, ap (λ (b : Bool). b && f l.i) l.invariant.2 ∙ all_more f l.i)
 
 pub returns : goal.returns
 unfolding blank_from
 returns c =
-    let l = c.loop-i in
-    let e : l.i ≡ 16 = omega arith in
-    rw (l.invariant.2, e)
+    let n = c.min-n.result in
+    let xs = c.args.words in
+    let e : length xs ≡ 16 = search rules in
+    let all : take (16 - n) (drop n xs) ≡ drop n xs = take_all (16 - n) (drop n xs) (omega (arith, e, length-drop n xs)) in
+    rw (c.are_blank.ensures, all) (zero_behind c.args.from n 16 xs e c.min-n.ensures)

@@ -1,4 +1,4 @@
-use Rattle.std.proofs.Common.{sym, ◌∙◌, eq-eqb, ne_eqb}
+use Rattle.std.proofs.Common.{arith, sym, ◌∙◌, eq-eqb, ne_eqb}
 use borrow.Author.Tests.{not-true, not-false}
 use Rattle.calls.specs.Statuses as Statuses
 use Rattle.waiting.specs.Fit.{paused_fitb}
@@ -20,26 +20,26 @@ returns-then-h-ne-WAITING c =
     let p = sym m.ensures ∙ not-false m.result (ap not c.if-not-is_paused.false) in
     sym (paused-status a.h a.th p (ne_eqb a.h.status Statuses.waiting c.if-h-ne-WAITING.true))
 
-pub returns-then-th-eq-ON_QUEUE : goal.returns-then-th-eq-ON_QUEUE
-returns-then-th-eq-ON_QUEUE c =
+pub returns-in-5 : goal.returns-in-5
+returns-in-5 c =
     let a = c.args in
     let m = c.is_paused in
     let p = sym m.ensures ∙ not-false m.result (ap not c.if-not-is_paused.false) in
     let e = eq-eqb a.h.status Statuses.waiting c.if-h-ne-WAITING.false in
-    rw c.joined.ensures (paused_queue a.h a.th p e c.if-th-eq-ON_QUEUE.true)
+    rw c.is_blank.ensures (paused_queue a.h a.th p e c.in-5.is)
 
-pub returns-then-th-eq-ON_FLAGS : goal.returns-then-th-eq-ON_FLAGS
-returns-then-th-eq-ON_FLAGS c =
+pub returns-in-7 : goal.returns-in-7
+returns-in-7 c =
     let a = c.args in
     let m = c.is_paused in
     let p = sym m.ensures ∙ not-false m.result (ap not c.if-not-is_paused.false) in
     let e = eq-eqb a.h.status Statuses.waiting c.if-h-ne-WAITING.false in
-    rw c.joined.ensures (paused-flags a.h a.th p e c.if-th-eq-ON_FLAGS.true)
+    rw c.is_blank.ensures (paused-flags a.h a.th p e c.in-7.is)
 
-pub returns : goal.returns
-returns c =
+pub returns-in_default : goal.returns-in_default
+returns-in_default c =
     let a = c.args in
     let m = c.is_paused in
     let p = sym m.ensures ∙ not-false m.result (ap not c.if-not-is_paused.false) in
     let e = eq-eqb a.h.status Statuses.waiting c.if-h-ne-WAITING.false in
-    rw c.joined.ensures (paused_other a.h a.th p e c.if-th-eq-ON_QUEUE.false c.if-th-eq-ON_FLAGS.false)
+    rw c.is_blank.ensures (paused_other a.h a.th p e (λ z. omega (arith, z)) (λ z. omega (arith, z)))

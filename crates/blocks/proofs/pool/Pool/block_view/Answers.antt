@@ -7,12 +7,12 @@ use Rattle.blocks.specs.Views.{onwards}
 use Rattle.blocks.proofs.Laws.Views.{extent_shown, extent_inside, extent-viewed}
 use Rattle.blocks.proofs.pool.Pool.block_view.Goals as goal
 
-pub overflow_add-end : goal.overflow_add-end
-overflow_add-end c =
+pub overflow_add-result : goal.overflow_add-result
+overflow_add-result c =
     let a = c.args in
     let e = c.block_extent-e in
     let h = extent_inside a.self a.block (length a.area.now) e.result e.ensures in
-    omega (arith, h)
+    record { fits = omega (arith, h) }
 
 pub slice_bounds-area-end : goal.slice_bounds-area-end
 slice_bounds-area-end c =

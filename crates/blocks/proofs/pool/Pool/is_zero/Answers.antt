@@ -1,25 +1,13 @@
-use mathlib.Core.Path.{◌≡◌}
-use native.Mathlib.Omega.{arith}
+use mathlib.Core.Path.{◌≡◌, refl}
 use borrow.Author.Rules.{rules}
-use Rattle.lines.specs.Logic.{all_below}
-use Rattle.lines.specs.Slots.{zero_from}
-use Rattle.lines.proofs.Laws.Slots.{zero_more}
+use lib.ListN.{length}
+use Rattle.lines.proofs.Laws.Slots.{zero_rest}
 use Rattle.blocks.specs.Pools.{pool_zerob}
 use Rattle.blocks.proofs.pool.Pool.is_zero.Goals as goal
 
-pub loop-i-init : goal.loop-i-init
-unfolding all_below
-loop-i-init c = search rules
-
-pub loop-i-preserved : goal.loop-i-preserved
-loop-i-preserved c =
-    let l = c.loop-i in
-    let a = c.args in
-    (omega arith, l.invariant.1, zero_more l.any l.i a.self.list l.invariant.2)
-
 pub returns : goal.returns
-unfolding pool_zerob zero_from
+unfolding pool_zerob
 returns c =
-    let l = c.loop-i in
-    let e : l.i ≡ 64 = omega arith in
-    rw (l.invariant.2, e)
+    let p = c.args.self in
+    let e : length p.list ≡ 64 = search rules in
+    rw (c.are_blank.ensures, zero_rest 0 0 p.list e refl)

@@ -3,10 +3,6 @@ use Rattle.objects.specs.Queues.{storing, flushed}
 use Rattle.lines.specs.Lines.{pad}
 use Rattle.objects.proofs.queue.Queue.flushed.Goals as goal
 
-pub storing-requires : goal.storing-requires
-unfolding flushed storing pad
-storing-requires c = search rules
-
 pub returns : goal.returns
 unfolding flushed storing pad
 returns c = search rules

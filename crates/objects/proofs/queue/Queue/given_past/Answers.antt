@@ -1,11 +1,6 @@
 use mathlib.Core.Path.{refl}
-use borrow.Author.Rules.{rules}
 use Rattle.objects.specs.Queues.{given_past}
 use Rattle.objects.proofs.queue.Queue.given_past.Goals as goal
-
-pub oldest-requires : goal.oldest-requires
-unfolding given_past
-oldest-requires c = search rules
 
 pub returns-then-front : goal.returns-then-front
 unfolding given_past

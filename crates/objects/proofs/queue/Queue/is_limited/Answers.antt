@@ -2,10 +2,6 @@ use borrow.Author.Rules.{rules}
 use Rattle.objects.specs.Queues.{queue_limitsb}
 use Rattle.objects.proofs.queue.Queue.is_limited.Goals as goal
 
-pub sizes_fit-requires : goal.sizes_fit-requires
-unfolding queue_limitsb
-sizes_fit-requires c = search rules
-
 pub returns : goal.returns
 unfolding queue_limitsb
 returns c = search rules

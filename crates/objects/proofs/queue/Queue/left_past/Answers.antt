@@ -2,14 +2,6 @@ use borrow.Author.Rules.{rules}
 use Rattle.objects.specs.Queues.{with_sent, left_past}
 use Rattle.objects.proofs.queue.Queue.left_past.Goals as goal
 
-pub without_oldest-requires : goal.without_oldest-requires
-unfolding left_past with_sent
-without_oldest-requires c = search rules
-
-pub with_sent-requires : goal.with_sent-requires
-unfolding left_past with_sent
-with_sent-requires c = search rules
-
 pub returns-then-front : goal.returns-then-front
 unfolding left_past with_sent
 returns-then-front c = search rules

@@ -1,14 +1,5 @@
-use borrow.Author.Rules.{rules}
 use Rattle.scheduler.specs.Threads.{in_state, awake}
 use Rattle.scheduler.proofs.thread.Thread.awake.Goals as goal
-
-pub at_rest-requires : goal.at_rest-requires
-unfolding awake in_state
-at_rest-requires c = search rules
-
-pub at_rest-requires-else-self : goal.at_rest-requires-else-self
-unfolding awake in_state
-at_rest-requires-else-self c = search rules
 
 pub returns-then-self : goal.returns-then-self
 unfolding awake in_state

@@ -1,7 +1,6 @@
-use mathlib.Core.Path.{refl}
-use Rattle.scheduler.specs.Threads.{created}
+use Rattle.scheduler.specs.Threads.{uncreated, created}
 use Rattle.scheduler.proofs.thread.Thread.created.Goals as goal
 
 pub returns : goal.returns
-unfolding created
-returns c = refl
+unfolding created uncreated
+returns c = rw c.uncreated.ensures

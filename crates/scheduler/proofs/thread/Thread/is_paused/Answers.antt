@@ -1,7 +1,6 @@
-use mathlib.Core.Path.{refl}
-use Rattle.scheduler.specs.Threads.{sleepsb, waitsb, pausedb}
+use Rattle.scheduler.specs.Threads.{sleepsb, pausedb}
 use Rattle.scheduler.proofs.thread.Thread.is_paused.Goals as goal
 
 pub returns : goal.returns
-unfolding pausedb waitsb sleepsb
-returns c = refl
+unfolding pausedb sleepsb
+returns c = rw c.is_waiting.ensures

@@ -1,7 +1,6 @@
-use mathlib.Core.Path.{refl}
-use Rattle.scheduler.specs.Threads.{readyb, waitsb, standsb}
+use Rattle.scheduler.specs.Threads.{standsb}
 use Rattle.scheduler.proofs.thread.Thread.is_standing.Goals as goal
 
 pub returns : goal.returns
-unfolding standsb readyb waitsb
-returns c = refl
+unfolding standsb
+returns c = rw (c.is_ready.ensures, c.is_waiting.ensures)
