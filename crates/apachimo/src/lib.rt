@@ -181,6 +181,7 @@ pub fn apachimo_run(state: &mut [u8], tape: &[u8], most: u32, replies: &mut [u32
     }
     let k = reading::kernel_of(state);
     let ran = k.run(tape, most, replies);
+    // By its fields: a `From` would take the tables too.
     let result = Run {
         status: ran.status,
         carried: ran.carried,

@@ -107,7 +107,7 @@ impl Pool {
         }
     }
 
-    // Whether an uncreated record is zero.
+    // Whether an uncreated record is zero. No equality: `pool_zerob` does not look at `created`.
     pub fn is_zero(self) -> bool
         ensures { result ≡ pool_zerob self }
     {

@@ -20,7 +20,7 @@ impl Pool {
         self.created & (self.total as usize <= len) & self.is_used(block)
     }
 
-    // Where block `block` lies in an area of `len` bytes, 0 bytes where it is not shown.
+    // Where block `block` lies in an area of `len` bytes, 0 bytes where it is not shown: no Option, since `extent_of` says so.
     pub fn block_extent(self, block: u32, len: usize) -> Extent
         ensures { result ≡ extent_of self block len }
     {

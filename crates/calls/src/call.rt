@@ -12,7 +12,8 @@ pub const INTERRUPT: u32 = 1;
 
 pub const THREAD: u32 = 2;
 
-// What a caller asks: the number of a call, the caller's kind and four arguments.
+// What a caller asks: the number of a call, the caller's kind and four arguments. All are numbers, as C and a tape pass them: the clauses speak of
+// every number, also of those that are no call, no start of a thread and no option.
 #[derive(Clone, Copy)]
 pub struct Request {
     pub number: u32,
@@ -74,7 +75,7 @@ pub fn block_number(b: u32) -> u8
     b.min(SLOTS as u32) as u8
 }
 
-// A request's option as a byte; every option past the last stands for the one behind it.
+// A request's option as a byte; every option past the last stands for the one behind it, which no call has.
 pub fn option_of(option: u32) -> u8
     ensures { result ≡ min option 4 }
 {

@@ -35,6 +35,7 @@ fn are_flags(block: &[u8], first: usize, size: usize, n: usize) -> bool
     requires { first + size * n < length block.now }
     ensures { result ≡ all_below n (λ i. flagb block.now (first + size * i)) }
 {
+    // By index: one flag is looked at in each record, and no part of the block is handed on.
     let mut fit = true;
     for i in 0..n {
         fit &= block[first + size * i] <= 1;

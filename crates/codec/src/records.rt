@@ -29,6 +29,7 @@ pub(crate) trait Record {
     // The bytes of a value.
     ghost bytes_of: { Self → List ℕ };
 
+    // The length is asked for here and below once for all records; each part that is passed on has it.
     fn read(&mut self, b: &[u8])
         requires { length b.now ≡ BYTES }
         ensures { self.new ≡ value_of b.now };

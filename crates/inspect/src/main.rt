@@ -20,17 +20,17 @@ mod tables;
 // The listing that this program prints.
 struct Inspect;
 
-impl<P: Print, const N: usize> Listing<P, N> for Inspect {
+impl<P: Print> Listing<P> for Inspect {
     ghost listed_text = { record_text };
 
-    fn put_record(w: &mut Writer<P, N>, i: u32, r: &Request, a: &Answer) {
+    fn put_record(w: &mut Writer<'_, P>, i: u32, r: &Request, a: &Answer) {
         put_call(w, i, r);
         put_result(w, a);
         put_tables(w, &a.kernel);
     }
 }
 
-fn put_arguments<P: Print, const N: usize>(w: &mut Writer<P, N>, r: &Request)
+fn put_arguments<P: Print>(w: &mut Writer<'_, P>, r: &Request)
     ensures { Puts w.old (arguments_text r.now) w.new }
 {
     put_field(w, b" ", r.a);
@@ -39,7 +39,7 @@ fn put_arguments<P: Print, const N: usize>(w: &mut Writer<P, N>, r: &Request)
     put_field(w, b" ", r.d);
 }
 
-fn put_call<P: Print, const N: usize>(w: &mut Writer<P, N>, i: u32, r: &Request)
+fn put_call<P: Print>(w: &mut Writer<'_, P>, i: u32, r: &Request)
     ensures { Puts w.old (call_text i r.now) w.new }
 {
     put_field(w, b"call ", i);
@@ -49,7 +49,7 @@ fn put_call<P: Print, const N: usize>(w: &mut Writer<P, N>, i: u32, r: &Request)
     w.put_byte(b'\n');
 }
 
-fn put_answer<P: Print, const N: usize>(w: &mut Writer<P, N>, a: &Answer)
+fn put_answer<P: Print>(w: &mut Writer<'_, P>, a: &Answer)
     ensures { Puts w.old (answer_text a.now.status a.now.next.0 a.now.ended) w.new }
 {
     put_field(w, b"result ", a.status);
@@ -58,7 +58,7 @@ fn put_answer<P: Print, const N: usize>(w: &mut Writer<P, N>, a: &Answer)
     put_field(w, b" ", a.ended);
 }
 
-fn put_result<P: Print, const N: usize>(w: &mut Writer<P, N>, a: &Answer)
+fn put_result<P: Print>(w: &mut Writer<'_, P>, a: &Answer)
     ensures { Puts w.old (result_text a.now.status a.now.next.0 a.now.ended a.now.words) w.new }
 {
     put_answer(w, a);
@@ -68,15 +68,15 @@ fn put_result<P: Print, const N: usize>(w: &mut Writer<P, N>, a: &Answer)
 }
 
 // Every call of a tape that is not refused, on the message words that are lent.
-fn put_calls<P: Print, const N: usize>(w: &mut Writer<P, N>, bytes: &[u8], messages: &[u32])
+fn put_calls<P: Print>(w: &mut Writer<'_, P>, bytes: &[u8], messages: &[u32])
     ensures { Puts w.old (calls_text messages.now (records_of bytes.now)) w.new }
 {
     put_tables(w, &Kernel::start());
-    put_records::<Inspect, P, N>(w, bytes, messages);
+    put_records::<Inspect, P>(w, bytes, messages);
 }
 
 // What is printed of a tape. It stands in `replay` and `inspect`, since one function of both would need a trait more for these lines.
-fn put_run<P: Print, const N: usize>(w: &mut Writer<P, N>, bytes: &[u8])
+fn put_run<P: Print>(w: &mut Writer<'_, P>, bytes: &[u8])
     ensures { Puts w.old (inspect_text bytes.now) w.new }
 {
     if tape::is_refused(bytes) {

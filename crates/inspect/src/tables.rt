@@ -10,7 +10,7 @@ use text::thread_table::{put_orders, put_threads};
 use text::{put_field, put_thread};
 
 // The clock and who runs.
-fn put_start<P: Print, const N: usize>(w: &mut Writer<P, N>, clock: u32, running: ThreadId)
+fn put_start<P: Print>(w: &mut Writer<'_, P>, clock: u32, running: ThreadId)
     ensures { Puts w.old (start_text clock running.0) w.new }
 {
     put_field(w, b"clock ", clock);
@@ -20,7 +20,7 @@ fn put_start<P: Print, const N: usize>(w: &mut Writer<P, N>, clock: u32, running
 }
 
 // The threads and the orders of the ready ones.
-fn put_scheduler<P: Print, const N: usize>(w: &mut Writer<P, N>, k: &Kernel)
+fn put_scheduler<P: Print>(w: &mut Writer<'_, P>, k: &Kernel)
     ensures { Puts w.old (scheduler_text k.now.clock k.now.scheduler k.now.held) w.new }
 {
     let s = &k.scheduler;
@@ -29,7 +29,7 @@ fn put_scheduler<P: Print, const N: usize>(w: &mut Writer<P, N>, k: &Kernel)
     put_orders(w, s);
 }
 
-pub fn put_tables<P: Print, const N: usize>(w: &mut Writer<P, N>, k: &Kernel)
+pub fn put_tables<P: Print>(w: &mut Writer<'_, P>, k: &Kernel)
     ensures { Puts w.old (tables_text k.now) w.new }
 {
     let s = &k.scheduler;

@@ -1,4 +1,6 @@
 // Event flags services.
+//
+// Create, delete and prioritise stand in each kind's file: tried as one function for all kinds, which takes the tables by value and copies them again.
 ghost use Rattle.std.specs.Prelude.{◌≡◌};
 ghost use Rattle.objects.specs.Groups.{group_with};
 ghost use Rattle.calls.specs.Held.{no_words};
@@ -12,11 +14,12 @@ ghost use Rattle.kernel.specs.Edits.{carried_out, guarded};
 ghost use Rattle.kernel.specs.Effects.{store_effect, remove_effect};
 ghost use Rattle.kernel.specs.Groups.{set_or_effect, set_effect, flags_get_effect};
 
-use super::{Answer, Kernel, NO_WORDS, record_in, store, two_words};
+use super::{Answer, Kernel, NO_WORDS, two_words};
 use calls::call::option_of;
 use calls::held::Held;
 use calls::refusal;
 use calls::status::{DELETED, SUCCESS, WAITING};
+use lines::slots::{record_in, store};
 use matching::woken;
 use numbers::{GroupId, THREADS, ThreadId};
 use objects::group::{Group, cleared_by, is_met, less};
@@ -52,6 +55,7 @@ impl Kernel {
         ensures { answered self.new self.new.scheduler success no_words result ≡ answer_of (carried_out self.old (set_or_effect self.old n.0 flags)) }
     {
         // Two tables of numbers: the clauses of `woken` speak of requests and options apart.
+        // Filled by a loop: with `array::from_fn` the proof did not close, since its calls do not tell what an indexed field of `self` gave.
         let mut requests: [u32; THREADS] = [0; THREADS];
         let mut options: [u8; THREADS] = [0; THREADS];
         for (t, h) in self.held.iter().enumerate() {

@@ -4,7 +4,7 @@
 
 #![tactic(auto)]
 
-ghost use Rattle.std.specs.Prelude.{◌≡◌, ℕ, get_or, set};
+ghost use Rattle.std.specs.Prelude.{◌≡◌, ℕ};
 ghost use Rattle.calls.specs.Held.{two_words};
 ghost use Rattle.kernel.specs.Tables.{started, runner_of};
 ghost use Rattle.kernel.specs.Answers.{answer_of, refused};
@@ -18,6 +18,7 @@ ghost use Rattle.kernel.specs.Loops.{answered};
 use blocks::pool::Pool;
 use calls::held::Held;
 use calls::status::SUCCESS;
+use lines::slots::store;
 use numbers::{GROUPS, MESSAGE_WORDS, POOLS, QUEUES, SEMAPHORES, THREADS, ThreadId};
 use objects::group::Group;
 use objects::queue::Queue;
@@ -41,8 +42,7 @@ pub mod waits;
 // The words of a message or an answer that has none.
 pub(crate) const NO_WORDS: [u32; MESSAGE_WORDS] = [0; MESSAGE_WORDS];
 
-// `held` stands beside the scheduler's threads, by the same numbers, so that a move or a choice copies the scheduler alone. Create, delete and
-// prioritise stand once for each kind of object: one function for all kinds that takes the tables by value copies them again.
+// `held` stands beside the scheduler's threads, by the same numbers, as it does in the definitions and in the block.
 #[derive(Clone, Copy)]
 pub struct Kernel {
     pub scheduler: Scheduler,
@@ -136,24 +136,6 @@ impl Kernel {
         let s = self.scheduler;
         store(&mut self.held, t.0, Held::of(SUCCESS, words));
         self.scheduler = s.woken(t);
-    }
-}
-
-// Record `n` of a table, and `none` past it.
-pub(crate) fn record_in<T: Copy>(all: &[T], n: u8, none: T) -> T
-    ensures { result ≡ get_or all.now n none }
-{
-    all.get(n as usize).copied().unwrap_or(none)
-}
-
-// Record `n` of a table is another; past the table nothing changes.
-// By index: what `get_mut` promises says nothing of the table afterwards.
-pub(crate) fn store<T: Copy>(all: &mut [T], n: u8, x: T)
-    ensures { all.new ≡ set all.old n x }
-{
-    let i = n as usize;
-    if i < all.len() {
-        all[i] = x;
     }
 }
 

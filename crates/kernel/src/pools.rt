@@ -1,4 +1,6 @@
 // Block pool services.
+//
+// Create, delete and prioritise stand in each kind's file: tried as one function for all kinds, which takes the tables by value and copies them again.
 ghost use Rattle.std.specs.Prelude.{◌≡◌};
 ghost use Rattle.blocks.specs.Pools.{fresh_pool};
 ghost use Rattle.calls.specs.Chains.{pool_create_refusal, pool_delete_refusal, allocate_refusal, release_refusal, pool_refusal};
@@ -9,11 +11,12 @@ ghost use Rattle.kernel.specs.Edits.{guarded};
 ghost use Rattle.kernel.specs.Effects.{store_effect, remove_effect, rank_effect};
 ghost use Rattle.kernel.specs.Pools.{allocate_effect, release_effect};
 
-use super::{Answer, Kernel, NO_WORDS, record_in, store, two_words};
+use super::{Answer, Kernel, NO_WORDS, two_words};
 use blocks::pool::Pool;
 use calls::held::Held;
 use calls::refusal;
 use calls::status::{DELETED, SUCCESS, WAITING};
+use lines::slots::{record_in, store};
 use numbers::{NOBODY, PoolId};
 use scheduler::thread::Place;
 

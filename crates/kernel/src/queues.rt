@@ -1,4 +1,6 @@
 // Queue services.
+//
+// Create, delete and prioritise stand in each kind's file: tried as one function for all kinds, which takes the tables by value and copies them again.
 ghost use Rattle.std.specs.Prelude.{◌≡◌, length};
 ghost use Rattle.objects.specs.Queues.{empty_queue};
 ghost use Rattle.calls.specs.Messages.{message_in};
@@ -10,11 +12,12 @@ ghost use Rattle.kernel.specs.Edits.{guarded};
 ghost use Rattle.kernel.specs.Effects.{store_effect, remove_effect, rank_effect};
 ghost use Rattle.kernel.specs.Queues.{send_effect, receive_effect, flush_effect};
 
-use super::{Answer, Kernel, NO_WORDS, record_in, store};
+use super::{Answer, Kernel, NO_WORDS};
 use calls::held::Held;
 use calls::message::message_in;
 use calls::refusal;
 use calls::status::{DELETED, SUCCESS, WAITING};
+use lines::slots::{record_in, store};
 use numbers::{NOBODY, QueueId};
 use objects::queue::Queue;
 use scheduler::thread::Place;

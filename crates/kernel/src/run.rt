@@ -68,6 +68,7 @@ impl Kernel {
         let mut next = self.scheduler.running;
         let mut a = self.refused(SUCCESS);
         let mut b = a;
+        // A flag, and no Option of either: both places stay.
         let mut in_b = false;
         for i in 0..end {
             let r = tape::record_at(bytes, i as usize);

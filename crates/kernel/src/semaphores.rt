@@ -1,4 +1,6 @@
 // Semaphore services.
+//
+// Create, delete and prioritise stand in each kind's file: tried as one function for all kinds, which takes the tables by value and copies them again.
 ghost use Rattle.std.specs.Prelude.{◌≡◌};
 ghost use Rattle.calls.specs.Held.{no_words};
 ghost use Rattle.calls.specs.Statuses.{success};
@@ -11,10 +13,11 @@ ghost use Rattle.kernel.specs.Edits.{carried_out, guarded};
 ghost use Rattle.kernel.specs.Effects.{store_effect, give_effect, remove_effect, rank_effect, counting};
 ghost use Rattle.kernel.specs.Semaphores.{semaphore_get_effect, put_effect};
 
-use super::{Answer, Kernel, NO_WORDS, record_in, store};
+use super::{Answer, Kernel, NO_WORDS};
 use calls::held::Held;
 use calls::refusal;
 use calls::status::{DELETED, SUCCESS, WAITING};
+use lines::slots::{record_in, store};
 use numbers::{NOBODY, SemaphoreId};
 use objects::semaphore::Semaphore;
 use scheduler::thread::Place;

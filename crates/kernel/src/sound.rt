@@ -66,13 +66,14 @@ impl Kernel {
         }
     }
 
-    // Whether the tables are sound.
+    // Whether the tables are sound. Every record is looked at, whatever is found.
     pub fn is_sound(self) -> bool
         ensures { result ≡ soundb self }
     {
         let s = self.scheduler;
         let mut held = true;
         let mut waits = true;
+        // The thread by its number: the two tables are read together, and a `zip` would name them no plainer.
         for (t, h) in self.held.iter().enumerate() {
             let th = s.threads[t];
             held &= held_fits(th, h);

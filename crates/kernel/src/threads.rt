@@ -12,10 +12,11 @@ ghost use Rattle.kernel.specs.Edits.{guarded};
 ghost use Rattle.kernel.specs.Threads.{create_effect, delete_effect, resume_effect, suspend_effect, terminate_effect, rest_effect, relinquish_effect, sleep_effect, abort_effect, priority_effect, preemption_effect, state_effect, words_effect};
 
 use super::waits::with_runner_asleep;
-use super::{Answer, Kernel, NO_WORDS, record_in, store, two_words};
+use super::{Answer, Kernel, NO_WORDS, two_words};
 use calls::held::Held;
 use calls::refusal;
 use calls::status::{SUCCESS, SUSPEND_LIFTED, WAIT_ABORTED, WAITING};
+use lines::slots::{record_in, store};
 use numbers::ThreadId;
 use scheduler::thread::{COMPLETED, READY, SUSPENDED, TERMINATED, Thread};
 

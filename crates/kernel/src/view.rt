@@ -4,9 +4,10 @@ ghost use Rattle.blocks.specs.Pools.{block_start};
 ghost use Rattle.blocks.specs.Views.{viewedb, onwards};
 ghost use Rattle.kernel.specs.Views.{viewed_pool, block_extent, block_view, block_written};
 
-use super::{Kernel, record_in};
+use super::Kernel;
 use blocks::pool::Pool;
 use blocks::view::Extent;
+use lines::slots::record_in;
 use numbers::PoolId;
 
 impl Kernel {

@@ -7,10 +7,11 @@ ghost use Rattle.kernel.specs.Answers.{answer_of};
 ghost use Rattle.kernel.specs.Edits.{Cause, Holds, carried_out};
 ghost use Rattle.kernel.specs.Effects.{does, ends_each};
 
-use super::{Answer, Kernel, NO_WORDS, store};
+use super::{Answer, Kernel, NO_WORDS};
 use calls::held::Held;
 use calls::status::SUCCESS;
 use lines::Line;
+use lines::slots::store;
 use numbers::{MESSAGE_WORDS, ThreadId};
 use scheduler::Scheduler;
 use scheduler::thread::Place;

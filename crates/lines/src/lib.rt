@@ -92,7 +92,7 @@ impl Line {
         }
     }
 
-    // The members other than `t`, in order, behind `t` itself where `lead` says so.
+    // The members other than `t`, in order, behind `t` itself where `lead` says so: one walk for all that join the front or leave.
     fn gathered(self, lead: bool, t: ThreadId) -> Line
         ensures { result ≡ line_of (only_if lead t.0 ++ without t.0 (members self)) }
     {
@@ -160,7 +160,8 @@ impl Line {
     }
 }
 
-// Of `x` with key `k` and the best of those behind it the better, `x` where the keys are equal.
+// Of `x` with key `k` and the best of those behind it the better, `x` where the keys are equal. A step, and no `min_by_key`: `better_of` says the
+// step, and one pass takes it for two bests.
 pub fn better(x: ThreadId, k: u8, b: Best) -> Best
     ensures { result ≡ better_of x.0 k b }
 {

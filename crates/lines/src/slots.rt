@@ -1,5 +1,5 @@
-// Slots that are filled from the front, and the test of those that are not in use.
-ghost use Rattle.std.specs.Prelude.{◌≡◌, ◌++◌};
+// Slots that are filled from the front, the test of those that are not in use, and reading and storing in a table.
+ghost use Rattle.std.specs.Prelude.{◌≡◌, ◌++◌, get_or, set};
 ghost use Rattle.std.specs.List.{list_all};
 ghost use Rattle.lines.specs.Slots.{filled};
 
@@ -25,4 +25,22 @@ pub fn are_blank<T: Copy + PartialEq>(slots: &[T], blank: T) -> bool
         all &= *x == blank;
     }
     all
+}
+
+// Record `n` of a table, and `none` past it.
+pub fn record_in<T: Copy>(all: &[T], n: u8, none: T) -> T
+    ensures { result ≡ get_or all.now n none }
+{
+    all.get(n as usize).copied().unwrap_or(none)
+}
+
+// Record `n` of a table is another; past the table nothing changes.
+// By index: what `get_mut` promises says nothing of the table afterwards.
+pub fn store<T: Copy>(all: &mut [T], n: u8, x: T)
+    ensures { all.new ≡ set all.old n x }
+{
+    let i = n as usize;
+    if i < all.len() {
+        all[i] = x;
+    }
 }

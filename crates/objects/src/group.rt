@@ -45,6 +45,7 @@ impl Group {
     }
 }
 
+// Request and option stand apart here and in the callers, as `metb` and `clear_of` take them.
 // Whether `flags` meet a request: some of its flags are set, or all of them, by the option. A request of 0 is never met.
 pub fn is_met(flags: u32, request: u32, option: u8) -> bool
     ensures { result ≡ metb flags request option }

@@ -188,7 +188,8 @@ impl Queue {
         self.with_sent(true, message)
     }
 
-    // The queue with a sent message: a front send's before the others, an ordinary one's behind them.
+    // The queue with a sent message: a front send's before the others, an ordinary one's behind them. `front` is a word of the definitions
+    // (`with_sent`, `given_past`, `left_past`), here and below.
     pub fn with_sent(self, front: bool, message: [u32; MESSAGE_WORDS]) -> Queue
         ensures { result ≡ with_sent self front message }
     {

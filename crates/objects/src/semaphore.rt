@@ -5,6 +5,7 @@ ghost use Rattle.objects.specs.Semaphores.{no_semaphore, semaphore_fitb};
 // The largest count, at which a put is refused.
 pub const LARGEST_COUNT: u32 = 0xFFFFFFFF;
 
+// A type of its own, though a group's record has the same shape: what the word means differs, and so do the definitions.
 // `created` stands beside the count, and no Option around it: tables may hold an uncreated record that is not zero, which `semaphore_fitb` refuses.
 #[derive(Clone, Copy)]
 pub struct Semaphore {

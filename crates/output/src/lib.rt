@@ -10,45 +10,54 @@ use std::marker::Model;
 // The bytes of text that a program gathers for a write.
 pub const BUFFER_BYTES: usize = 65536;
 
-// Text that is gathered in a buffer of N bytes and written to `out`, the standard output of a program, each time that the buffer is full.
-// `flush` at the end writes the rest. A write that fails is not reported. The contracts relate the buffer's bytes and position before and
-// after: the position is that up to which the bytes are text that is not written out yet. A position past the buffer counts as a full buffer.
+// Text that is gathered in a buffer that is lent, of any length, and written to `out`, the standard output of a program, each time that the
+// buffer is full. `flush` at the end writes the rest. A write that fails is not reported. The contracts relate the buffer's bytes and
+// position before and after: the position is that up to which the bytes are text that is not written out yet. A position past the buffer
+// counts as a full buffer.
 // No invariant bounds the position, since `Put` and the wrong version `position_past_the_buffer` speak of one past the buffer.
 #[derive(Drop)]
-pub struct Writer<P, const N: usize> {
+pub struct Writer<'a, P> {
     out: P,
-    buf: [u8; N],
+    buf: &'a mut [u8],
     at: usize,
 }
 
-impl<P, const N: usize> Model for Writer<P, N> {
+impl<'a, P> Model for Writer<'a, P> {
     ghost Value = { Buffer };
 
-    ghost view = { λ w. record { bytes = w.buf; at = w.at } };
+    ghost view = { λ w. record { bytes = w.buf.now; at = w.at } };
 }
 
-impl<P: Print, const N: usize> Writer<P, N> {
+impl<'a, P: Print> Writer<'a, P> {
     // A buffer that holds text up to a position.
-    pub fn with_text(out: P, buf: [u8; N], at: usize) -> Self
-        ensures bytes { result.bytes ≡ buf.entry }
+    pub fn with_text(out: P, buf: &'a mut [u8], at: usize) -> Self
+        ensures bytes { result.bytes ≡ buf.old }
         ensures position { result.at ≡ at }
     {
         Writer { out, buf, at }
     }
 
     // A buffer that holds no text.
-    pub fn new(out: P) -> Self
-        ensures { result.at ≡ 0 }
+    pub fn new(out: P, buf: &'a mut [u8]) -> Self
+        ensures bytes { result.bytes ≡ buf.old }
+        ensures position { result.at ≡ 0 }
     {
-        Writer::with_text(out, [0; N], 0)
+        Writer::with_text(out, buf, 0)
+    }
+
+    // The buffer's bytes, and the position up to which they are text that is not written out yet.
+    pub fn parts(&self) -> (&[u8], usize)
+        ensures bytes { result.0.now ≡ self.now.bytes }
+        ensures position { result.1 ≡ self.now.at }
+    {
+        (self.buf, self.at)
     }
 
     // Writes the text that is in the buffer, which then holds none.
     pub fn flush(&mut self)
         ensures { (self.new.at ≡ 0) × (self.new.bytes ≡ self.old.bytes) }
     {
-        let n = self.at.min(N);
-        let _ = self.out.write_all(&self.buf[..n]);
+        write_out(&self.out, self.buf, self.at);
         self.at = 0;
     }
 
@@ -56,13 +65,13 @@ impl<P: Print, const N: usize> Writer<P, N> {
     pub fn put_byte(&mut self, b: u8)
         ensures { Puts self.old (b ∷ []) self.new }
     {
-        if self.at < N {
+        if self.at < self.buf.len() {
             self.buf[self.at] = b;
             self.at += 1;
             return;
         }
         self.flush();
-        if 0 < N {
+        if 0 < self.buf.len() {
             self.buf[0] = b;
             self.at = 1;
         } else {
@@ -74,7 +83,7 @@ impl<P: Print, const N: usize> Writer<P, N> {
     pub fn put_nothing(&mut self)
         ensures { Puts self.old [] self.new }
     {
-        self.at = self.at.min(N);
+        self.at = self.at.min(self.buf.len());
     }
 
     // Puts a text into the buffer, which is written out each time that it is full.
@@ -95,4 +104,13 @@ impl<P: Print, const N: usize> Writer<P, N> {
         let k = io::decimal(n, &mut digits);
         self.put_text(&digits[..k]);
     }
+}
+
+// Writes the text up to a position, all of it where the position is past it. It takes the text by `&mut`, since a caller that lends by `&`
+// what lies behind its own `&mut` knows the bytes no longer.
+fn write_out<P: Print>(out: &P, text: &mut [u8], at: usize)
+    ensures { text.new ≡ text.old }
+{
+    let n = at.min(text.len());
+    let _ = out.write_all(&text[..n]);
 }

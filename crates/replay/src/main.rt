@@ -17,15 +17,15 @@ use text::{put_field, put_refused, put_thread};
 // The listing that this program prints.
 struct Replay;
 
-impl<P: Print, const N: usize> Listing<P, N> for Replay {
+impl<P: Print> Listing<P> for Replay {
     ghost listed_text = { λ i r a. answer_text a };
 
-    fn put_record(w: &mut Writer<P, N>, _: u32, _: &Request, a: &Answer) {
+    fn put_record(w: &mut Writer<'_, P>, _: u32, _: &Request, a: &Answer) {
         put_answer(w, a);
     }
 }
 
-fn put_answer<P: Print, const N: usize>(w: &mut Writer<P, N>, a: &Answer)
+fn put_answer<P: Print>(w: &mut Writer<'_, P>, a: &Answer)
     ensures { Puts w.old (answer_text a.now) w.new }
 {
     w.put_decimal(u64::from(a.status));
@@ -35,7 +35,7 @@ fn put_answer<P: Print, const N: usize>(w: &mut Writer<P, N>, a: &Answer)
     w.put_byte(b'\n');
 }
 
-fn put_count<P: Print, const N: usize>(w: &mut Writer<P, N>, label: &[u8], n: u32)
+fn put_count<P: Print>(w: &mut Writer<'_, P>, label: &[u8], n: u32)
     ensures { Puts w.old (count_text label.now n) w.new }
 {
     put_field(w, label, n);
@@ -43,17 +43,17 @@ fn put_count<P: Print, const N: usize>(w: &mut Writer<P, N>, label: &[u8], n: u3
 }
 
 // Every call of a tape that is not refused, on the message words that are lent.
-fn put_calls<P: Print, const N: usize>(w: &mut Writer<P, N>, bytes: &[u8], messages: &[u32])
+fn put_calls<P: Print>(w: &mut Writer<'_, P>, bytes: &[u8], messages: &[u32])
     ensures { Puts w.old (calls_text messages.now (records_of bytes.now)) w.new }
 {
     let n = tape::count(bytes);
     put_count(w, b"calls ", n);
-    put_records::<Replay, P, N>(w, bytes, messages);
+    put_records::<Replay, P>(w, bytes, messages);
     put_count(w, b"done ", n);
 }
 
 // What is printed of a tape. It stands in `replay` and `inspect`, since one function of both would need a trait more for these lines.
-fn put_run<P: Print, const N: usize>(w: &mut Writer<P, N>, bytes: &[u8])
+fn put_run<P: Print>(w: &mut Writer<'_, P>, bytes: &[u8])
     ensures { Puts w.old (replay_text bytes.now) w.new }
 {
     if tape::is_refused(bytes) {

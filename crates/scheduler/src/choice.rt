@@ -5,8 +5,9 @@ ghost use Rattle.scheduler.specs.Choice.{best_among, best_ready, rescheduled, re
 ghost use Rattle.scheduler.specs.declared.thread.Thread.{Thread};
 ghost use Rattle.scheduler.specs.Loops.{considered_of, Computes};
 
+use super::Scheduler;
 use super::thread::Thread;
-use super::{Scheduler, record_of};
+use lines::slots::record_in;
 use lines::{Best, LARGEST_KEY, better};
 use numbers::{NOBODY, THREADS, ThreadId};
 
@@ -60,7 +61,8 @@ impl Scheduler {
     }
 
     // The choice after a call, made where the tables lie: one pass finds the best ready thread and the best marked one. A runner that stays,
-    // else the best marked thread, goes on unless the best ready thread overtakes it.
+    // else the best marked thread, goes on unless the best ready thread overtakes it. Two passes by `best` would be slower, and this ends almost
+    // every call.
     pub fn rescheduled(mut self, relinquished: bool) -> Scheduler
         ensures { result ≡ rescheduled self relinquished }
     {
@@ -79,16 +81,17 @@ impl Scheduler {
             }
         }
         let r = self.running;
-        let runner = record_of(&self.threads, r);
+        let runner = record_in(&self.threads, r.0, Thread::uncreated());
         let stays = runner.is_ready() & !relinquished;
         let mut next = if stays { r } else { marked.id };
-        let other = record_of(&self.threads, next);
+        let other = record_in(&self.threads, next.0, Thread::uncreated());
         if overtakes(ready, next, other.threshold) {
             if stays {
                 self.threads[r.0 as usize].marked = runner.threshold < runner.priority;
             }
             next = ready.id;
         }
+        // By index: one field is written, where `store` would write the whole record.
         let i = next.0 as usize;
         if i < THREADS {
             self.threads[i].marked = false;

@@ -5,12 +5,12 @@
 
 #![tactic(auto)]
 
-ghost use Rattle.std.specs.Prelude.{◌≡◌, get_or};
+ghost use Rattle.std.specs.Prelude.{◌≡◌};
 ghost use Rattle.lines.specs.Lines.{members, line_of};
-ghost use Rattle.scheduler.specs.Threads.{uncreated};
 ghost use Rattle.scheduler.specs.Orders.{thread_at, line_at, first_at, with_thread, idle};
 
 use lines::Line;
+use lines::slots::{record_in, store};
 use numbers::{NOBODY, THREADS, ThreadId};
 use thread::{Place, Thread};
 
@@ -26,16 +26,6 @@ pub struct Scheduler {
     pub running: ThreadId,
     pub order: Line,
     pub threads: [Thread; THREADS],
-}
-
-// The record of thread `t` in a table.
-fn record_of(threads: &[Thread; THREADS], t: ThreadId) -> Thread
-    ensures { result ≡ get_or threads.now t.0 uncreated }
-{
-    threads
-        .get(t.0 as usize)
-        .copied()
-        .unwrap_or(Thread::uncreated())
 }
 
 impl Scheduler {
@@ -54,17 +44,14 @@ impl Scheduler {
     pub fn thread_at(self, t: ThreadId) -> Thread
         ensures { result ≡ thread_at self t.0 }
     {
-        record_of(&self.threads, t)
+        record_in(&self.threads, t.0, Thread::uncreated())
     }
 
     // The same with another record for thread `t`, which stands where it stood.
     pub fn with_thread(mut self, t: ThreadId, th: Thread) -> Scheduler
         ensures { result ≡ with_thread self t.0 th }
     {
-        let i = t.0 as usize;
-        if i < THREADS {
-            self.threads[i] = th;
-        }
+        store(&mut self.threads, t.0, th);
         self
     }
 
@@ -73,11 +60,10 @@ impl Scheduler {
         ensures { result.0 ≡ first_at self p }
     {
         let o = self.order;
-        let found = o
-            .as_slice()
-            .iter()
-            .copied()
-            .find(|x| record_of(&self.threads, ThreadId(*x)).is_at(p));
+        let found = o.as_slice().iter().copied().find(|x| {
+            let th = record_in(&self.threads, *x, Thread::uncreated());
+            th.is_at(p)
+        });
         ThreadId(found.unwrap_or(NOBODY))
     }
 
@@ -88,7 +74,7 @@ impl Scheduler {
         let o = self.order;
         let mut l = Line::empty();
         for x in o.as_slice() {
-            if record_of(&self.threads, ThreadId(*x)).is_at(p) {
+            if record_in(&self.threads, *x, Thread::uncreated()).is_at(p) {
                 l.push(ThreadId(*x));
             }
         }

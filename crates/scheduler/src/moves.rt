@@ -4,7 +4,8 @@ ghost use Rattle.scheduler.specs.Orders.{moved, moved_front, joined, woken, prio
 
 use super::Scheduler;
 use super::thread::{Place, Thread};
-use numbers::{THREADS, ThreadId};
+use lines::slots::store;
+use numbers::ThreadId;
 
 impl Scheduler {
     // Thread `t` gets another record, and joins the front of its order or the end, or none. The record is stored where the tables lie: through
@@ -13,10 +14,7 @@ impl Scheduler {
         ensures { self.new ≡ joined self.old front t.0 th }
     {
         let o = self.order;
-        let i = t.0 as usize;
-        if i < THREADS {
-            self.threads[i] = th;
-        }
+        store(&mut self.threads, t.0, th);
         self.order = if !th.is_standing() {
             o.without(t)
         } else if front {
@@ -42,7 +40,7 @@ impl Scheduler {
         self
     }
 
-    // Thread `t` with another record, at the front of its order or at the end, or in none.
+    // Thread `t` with another record, at the front of its order or at the end, or in none. `front` is a word of the definition `joined`.
     pub fn joined(mut self, front: bool, t: ThreadId, th: Thread) -> Scheduler
         ensures { result ≡ joined self front t.0 th }
     {

@@ -16,6 +16,7 @@ impl Scheduler {
         let runner = self.thread_at(r);
         let limit = runner.threshold;
         let counts = o.tally();
+        // The count by its number: `counts` has one slot more, and a `zip` would read no plainer.
         for (t, th) in self.threads.iter().enumerate() {
             if !th.is_placed(counts[t], limit) {
                 return false;

@@ -69,7 +69,7 @@ pub fn is_refused(bytes: &[u8]) -> bool
         | (bytes.len() != end + WORD_BYTES * m)
 }
 
-// The word of the header at `at`, 0 in a refused tape.
+// The word of the header at `at`, 0 in a refused tape: no Option, since `count_of` and `message_count_of` say so.
 fn header_word(bytes: &[u8], at: usize) -> u32
     ensures { result ≡ (if refusedb bytes.now then 0 else word_at bytes.now at) }
 {
@@ -103,7 +103,7 @@ pub fn message_count(bytes: &[u8]) -> u32
     header_word(bytes, 8)
 }
 
-// The request that the bytes of a record spell.
+// The request that the bytes of a record spell. The length is asked for, since with a test for each byte reading is several times slower.
 #[tactic(auto, unfolding(crate::specs::Tapes::record_from, crate::specs::Tapes::word_at))]
 fn record_of(b: &[u8]) -> Request
     requires { length b.now ≡ record_bytes }
@@ -150,7 +150,7 @@ pub fn record_at(bytes: &[u8], i: usize) -> Request
     }
 }
 
-// The message words at the front, zeros behind them. `message_count` says how many there are.
+// The message words at the front, zeros behind them. `message_count` says how many there are. An array, and no Vec: there is no heap.
 #[tactic(auto, unfolding(crate::specs::Tapes::records_end))]
 pub fn messages(bytes: &[u8]) -> [u32; 4000]
     ensures { result ≡ pad most_message_words (messages_of bytes.now) }

@@ -30,7 +30,7 @@ pub fn refusal(status: u32, next: ThreadId) -> Reply
     }
 }
 
-// A reply as nineteen words.
+// A reply as nineteen words. Written out, as `reply_words` is, so that each word has its place before the eyes.
 fn reply_words(r: Reply) -> [u32; 19]
     ensures { result ≡ reply_words r }
 {

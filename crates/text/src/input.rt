@@ -15,7 +15,7 @@ const MOST_PATH_BYTES: usize = 4096;
 
 const NAME_TOO_LONG: i32 = 36;
 
-// What a tape is read from.
+// What a tape is read from. An enum of the two types of readers, which are both known here; a `dyn` would want a box.
 #[derive(Drop)]
 pub enum Source<I, F> {
     StandardInput(I),
@@ -67,10 +67,11 @@ pub fn open<R: Files + Env + Input + Eprint + Alloc>(rt: &R) -> Option<Source<R:
     }
 }
 
-// Reads the tape that a program is given, and prints what `put` puts into a buffer of it.
+// Reads the tape that a program is given, and prints what `put` puts into a buffer of it. No clause speaks of what reaches the output, since
+// std's `Print` has none.
 pub fn print_tape<
     R: Files + Env + Input + Print + Eprint + Alloc,
-    F: FnOnce(&mut Writer<&R, BUFFER_BYTES>, &[u8]),
+    F: FnOnce(&mut Writer<'_, &R>, &[u8]),
 >(rt: &R, put: F)
     requires { F.IsAlwaysCallable put }
 {
@@ -79,7 +80,8 @@ pub fn print_tape<
     };
     let mut bytes = [0u8; MOST_BYTES];
     let n = source.read_full(&mut bytes);
-    let mut w = Writer::new(rt);
+    let mut buf = [0u8; BUFFER_BYTES];
+    let mut w = Writer::new(rt, &mut buf);
     put(&mut w, &bytes[..n]);
     w.flush();
 }

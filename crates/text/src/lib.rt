@@ -18,7 +18,7 @@ pub mod records;
 pub mod thread_table;
 
 // A label and a number.
-pub fn put_field<P: Print, const N: usize>(w: &mut Writer<P, N>, label: &[u8], n: u32)
+pub fn put_field<P: Print>(w: &mut Writer<'_, P>, label: &[u8], n: u32)
     ensures { Puts w.old (field_text label.now n) w.new }
 {
     w.put_text(label);
@@ -26,7 +26,7 @@ pub fn put_field<P: Print, const N: usize>(w: &mut Writer<P, N>, label: &[u8], n
 }
 
 // A thread's number, `-` for nobody.
-pub fn put_thread<P: Print, const N: usize>(w: &mut Writer<P, N>, t: ThreadId)
+pub fn put_thread<P: Print>(w: &mut Writer<'_, P>, t: ThreadId)
     ensures { Puts w.old (thread_text t.0) w.new }
 {
     if t.0 < NOBODY {
@@ -38,7 +38,7 @@ pub fn put_thread<P: Print, const N: usize>(w: &mut Writer<P, N>, t: ThreadId)
 
 // A separator, but none before the first of a list.
 #[tactic(auto, unfolding(crate::specs::Texts::separator_text))]
-pub fn put_separator<P: Print, const N: usize>(w: &mut Writer<P, N>, i: usize, separator: u8)
+pub fn put_separator<P: Print>(w: &mut Writer<'_, P>, i: usize, separator: u8)
     ensures { Puts w.old (separator_text i separator) w.new }
 {
     if i == 0 {
@@ -68,11 +68,7 @@ impl Number for u32 {
 }
 
 // Numbers with a separator between them.
-pub fn put_numbers<T: Number, P: Print, const N: usize>(
-    w: &mut Writer<P, N>,
-    numbers: &[T],
-    separator: u8,
-)
+pub fn put_numbers<T: Number, P: Print>(w: &mut Writer<'_, P>, numbers: &[T], separator: u8)
     ensures { Puts w.old (each_text (λ i x. separator_text i separator ++ decimal_of (T.number x)) 0 numbers.now) w.new }
 {
     w.put_nothing();
@@ -83,7 +79,7 @@ pub fn put_numbers<T: Number, P: Print, const N: usize>(
 }
 
 // The threads of a line, and the end of the text line.
-pub fn put_line<P: Print, const N: usize>(w: &mut Writer<P, N>, l: &Line)
+pub fn put_line<P: Print>(w: &mut Writer<'_, P>, l: &Line)
     ensures { Puts w.old (line_text (members l.now)) w.new }
 {
     w.put_text(b": ");
@@ -92,7 +88,7 @@ pub fn put_line<P: Print, const N: usize>(w: &mut Writer<P, N>, l: &Line)
 }
 
 // What is printed of a refused tape.
-pub fn put_refused<P: Print, const N: usize>(w: &mut Writer<P, N>)
+pub fn put_refused<P: Print>(w: &mut Writer<'_, P>)
     ensures { Puts w.old refused_text w.new }
 {
     put_field(w, b"tape refused ", TAPE_REFUSED);

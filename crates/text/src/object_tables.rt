@@ -21,7 +21,7 @@ use scheduler::thread::Place;
 
 // A kind of object, whose table is printed by number: the place where threads wait on one, and its line of text, nothing where it is not
 // created.
-trait Object<P, const N: usize>: Copy {
+trait Object<P>: Copy {
     ghost waiters: { ℕ → Place };
 
     ghost object_text: { ℕ → Self → List ℕ → List ℕ };
@@ -29,15 +29,12 @@ trait Object<P, const N: usize>: Copy {
     fn place(n: u8) -> Place
         ensures { result ≡ waiters n };
 
-    fn put(&self, w: &mut Writer<P, N>, n: u8, l: &Line)
+    fn put(&self, w: &mut Writer<'_, P>, n: u8, l: &Line)
         ensures { Puts w.old (object_text n self.now (members l.now)) w.new };
 }
 
-fn put_table<T: Object<P, N>, P: Print, const N: usize>(
-    w: &mut Writer<P, N>,
-    all: &[T],
-    s: &Scheduler,
-)
+// An object's number is a byte, so a table has at most 256 objects; each table of the kernel has fewer.
+fn put_table<T: Object<P>, P: Print>(w: &mut Writer<'_, P>, all: &[T], s: &Scheduler)
     requires { length all.now ≤ 256 }
     ensures { Puts w.old (each_text (λ n x. T.object_text n x (line_at s.now (T.waiters n))) 0 all.now) w.new }
 {
@@ -49,7 +46,7 @@ fn put_table<T: Object<P, N>, P: Print, const N: usize>(
     }
 }
 
-impl<P: Print, const N: usize> Object<P, N> for Semaphore {
+impl<P: Print> Object<P> for Semaphore {
     ghost waiters = { waiters_at on_semaphore };
 
     ghost object_text = { semaphore_text };
@@ -58,7 +55,7 @@ impl<P: Print, const N: usize> Object<P, N> for Semaphore {
         Place::semaphore(SemaphoreId(n))
     }
 
-    fn put(&self, w: &mut Writer<P, N>, n: u8, l: &Line) {
+    fn put(&self, w: &mut Writer<'_, P>, n: u8, l: &Line) {
         if !self.created {
             return w.put_nothing();
         }
@@ -68,12 +65,9 @@ impl<P: Print, const N: usize> Object<P, N> for Semaphore {
     }
 }
 
+// A function for each kind, since each names its table's text, and `put_table` asks for a length that these types have.
 #[tactic(auto, unfolding(crate::specs::Objects::semaphores_text))]
-pub fn put_semaphores<P: Print, const N: usize>(
-    w: &mut Writer<P, N>,
-    all: &[Semaphore; SEMAPHORES],
-    s: &Scheduler,
-)
+pub fn put_semaphores<P: Print>(w: &mut Writer<'_, P>, all: &[Semaphore; SEMAPHORES], s: &Scheduler)
     ensures { Puts w.old (semaphores_text all.now s.now) w.new }
 {
     put_table(w, all, s);
@@ -90,7 +84,7 @@ fn separator(i: usize, words: usize) -> u8
 }
 
 // The stored messages, oldest first.
-fn put_stored<P: Print, const N: usize>(w: &mut Writer<P, N>, q: &Queue)
+fn put_stored<P: Print>(w: &mut Writer<'_, P>, q: &Queue)
     ensures { Puts w.old (stored_text q.now) w.new }
 {
     let words = usize::from(q.words);
@@ -102,7 +96,7 @@ fn put_stored<P: Print, const N: usize>(w: &mut Writer<P, N>, q: &Queue)
     }
 }
 
-fn put_queue_sizes<P: Print, const N: usize>(w: &mut Writer<P, N>, n: u8, q: &Queue)
+fn put_queue_sizes<P: Print>(w: &mut Writer<'_, P>, n: u8, q: &Queue)
     ensures { Puts w.old (queue_sizes_text n q.now) w.new }
 {
     put_field(w, b"queue ", u32::from(n));
@@ -111,7 +105,7 @@ fn put_queue_sizes<P: Print, const N: usize>(w: &mut Writer<P, N>, n: u8, q: &Qu
     put_field(w, b" cap=", u32::from(q.capacity()));
 }
 
-impl<P: Print, const N: usize> Object<P, N> for Queue {
+impl<P: Print> Object<P> for Queue {
     ghost waiters = { waiters_at on_queue };
 
     ghost object_text = { queue_text };
@@ -120,7 +114,7 @@ impl<P: Print, const N: usize> Object<P, N> for Queue {
         Place::queue(QueueId(n))
     }
 
-    fn put(&self, w: &mut Writer<P, N>, n: u8, l: &Line) {
+    fn put(&self, w: &mut Writer<'_, P>, n: u8, l: &Line) {
         if !self.created {
             return w.put_nothing();
         }
@@ -132,18 +126,15 @@ impl<P: Print, const N: usize> Object<P, N> for Queue {
     }
 }
 
+// A function of its own for the reason at `put_semaphores`.
 #[tactic(auto, unfolding(crate::specs::Objects::queues_text))]
-pub fn put_queues<P: Print, const N: usize>(
-    w: &mut Writer<P, N>,
-    all: &[Queue; QUEUES],
-    s: &Scheduler,
-)
+pub fn put_queues<P: Print>(w: &mut Writer<'_, P>, all: &[Queue; QUEUES], s: &Scheduler)
     ensures { Puts w.old (queues_text all.now s.now) w.new }
 {
     put_table(w, all, s);
 }
 
-impl<P: Print, const N: usize> Object<P, N> for Group {
+impl<P: Print> Object<P> for Group {
     ghost waiters = { waiters_at on_flags };
 
     ghost object_text = { group_text };
@@ -152,7 +143,7 @@ impl<P: Print, const N: usize> Object<P, N> for Group {
         Place::group(GroupId(n))
     }
 
-    fn put(&self, w: &mut Writer<P, N>, n: u8, l: &Line) {
+    fn put(&self, w: &mut Writer<'_, P>, n: u8, l: &Line) {
         if !self.created {
             return w.put_nothing();
         }
@@ -162,26 +153,23 @@ impl<P: Print, const N: usize> Object<P, N> for Group {
     }
 }
 
+// A function of its own for the reason at `put_semaphores`.
 #[tactic(auto, unfolding(crate::specs::Objects::groups_text))]
-pub fn put_groups<P: Print, const N: usize>(
-    w: &mut Writer<P, N>,
-    all: &[Group; GROUPS],
-    s: &Scheduler,
-)
+pub fn put_groups<P: Print>(w: &mut Writer<'_, P>, all: &[Group; GROUPS], s: &Scheduler)
     ensures { Puts w.old (groups_text all.now s.now) w.new }
 {
     put_table(w, all, s);
 }
 
 // The free blocks in the order in which they would be given.
-fn put_free<P: Print, const N: usize>(w: &mut Writer<P, N>, p: &Pool)
+fn put_free<P: Print>(w: &mut Writer<'_, P>, p: &Pool)
     ensures { Puts w.old (free_text p.now) w.new }
 {
     let n = usize::from(p.free).min(SLOTS);
     put_numbers(w, &p.list[..n], b',');
 }
 
-fn put_pool_sizes<P: Print, const N: usize>(w: &mut Writer<P, N>, n: u8, p: &Pool)
+fn put_pool_sizes<P: Print>(w: &mut Writer<'_, P>, n: u8, p: &Pool)
     ensures { Puts w.old (pool_sizes_text n p.now) w.new }
 {
     put_field(w, b"pool ", u32::from(n));
@@ -190,7 +178,7 @@ fn put_pool_sizes<P: Print, const N: usize>(w: &mut Writer<P, N>, n: u8, p: &Poo
     put_field(w, b" blocks=", p.blocks());
 }
 
-impl<P: Print, const N: usize> Object<P, N> for Pool {
+impl<P: Print> Object<P> for Pool {
     ghost waiters = { waiters_at on_block };
 
     ghost object_text = { pool_text };
@@ -199,7 +187,7 @@ impl<P: Print, const N: usize> Object<P, N> for Pool {
         Place::pool(PoolId(n))
     }
 
-    fn put(&self, w: &mut Writer<P, N>, n: u8, l: &Line) {
+    fn put(&self, w: &mut Writer<'_, P>, n: u8, l: &Line) {
         if !self.created {
             return w.put_nothing();
         }
@@ -211,8 +199,9 @@ impl<P: Print, const N: usize> Object<P, N> for Pool {
     }
 }
 
+// A function of its own for the reason at `put_semaphores`.
 #[tactic(auto, unfolding(crate::specs::Objects::pools_text))]
-pub fn put_pools<P: Print, const N: usize>(w: &mut Writer<P, N>, all: &[Pool; POOLS], s: &Scheduler)
+pub fn put_pools<P: Print>(w: &mut Writer<'_, P>, all: &[Pool; POOLS], s: &Scheduler)
     ensures { Puts w.old (pools_text all.now s.now) w.new }
 {
     put_table(w, all, s);

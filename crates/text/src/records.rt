@@ -12,21 +12,17 @@ use kernel::{Answer, Kernel};
 use output::Writer;
 
 // A program that prints something of each record of a tape.
-pub trait Listing<P, const N: usize> {
+pub trait Listing<P> {
     ghost listed_text: { ℕ → Request → Answer → List ℕ };
 
     // Record i and its answer.
-    fn put_record(w: &mut Writer<P, N>, i: u32, r: &Request, a: &Answer)
+    fn put_record(w: &mut Writer<'_, P>, i: u32, r: &Request, a: &Answer)
         ensures { Puts w.old (listed_text i r.now a.now) w.new };
 }
 
 // Every record of a tape: the first is carried out with nothing created, each other on the tables that the one before it left. The message
 // words are those that a send takes its message from.
-pub fn put_records<L: Listing<P, N>, P: Print, const N: usize>(
-    w: &mut Writer<P, N>,
-    bytes: &[u8],
-    messages: &[u32],
-)
+pub fn put_records<L: Listing<P>, P: Print>(w: &mut Writer<'_, P>, bytes: &[u8], messages: &[u32])
     ensures { Puts w.old (records_text L.listed_text 0 started messages.now (records_of bytes.now)) w.new }
 {
     let mut k = Kernel::start();

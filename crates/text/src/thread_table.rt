@@ -15,7 +15,7 @@ use scheduler::thread::{Place, Thread};
 use waiting::ticks::FOREVER;
 
 // The kind of a wait and the ticks left of a timed one.
-fn put_wait<P: Print, const N: usize>(w: &mut Writer<P, N>, ticks: u32)
+fn put_wait<P: Print>(w: &mut Writer<'_, P>, ticks: u32)
     ensures { Puts w.old (wait_text ticks) w.new }
 {
     match ticks {
@@ -26,7 +26,7 @@ fn put_wait<P: Print, const N: usize>(w: &mut Writer<P, N>, ticks: u32)
 }
 
 // The levels of a thread.
-fn put_levels<P: Print, const N: usize>(w: &mut Writer<P, N>, t: u32, th: &Thread)
+fn put_levels<P: Print>(w: &mut Writer<'_, P>, t: u32, th: &Thread)
     ensures { Puts w.old (levels_text t th.now) w.new }
 {
     put_field(w, b"thread ", t);
@@ -36,7 +36,7 @@ fn put_levels<P: Print, const N: usize>(w: &mut Writer<P, N>, t: u32, th: &Threa
 }
 
 // The mark, the held suspension and the held status.
-fn put_marks<P: Print, const N: usize>(w: &mut Writer<P, N>, th: &Thread, h: &Held)
+fn put_marks<P: Print>(w: &mut Writer<'_, P>, th: &Thread, h: &Held)
     ensures { Puts w.old (marks_text th.now h.now) w.new }
 {
     put_field(w, b" mark=", u32::from(th.marked));
@@ -45,7 +45,7 @@ fn put_marks<P: Print, const N: usize>(w: &mut Writer<P, N>, th: &Thread, h: &He
 }
 
 // What a thread waits for.
-fn put_request<P: Print, const N: usize>(w: &mut Writer<P, N>, th: &Thread, h: &Held)
+fn put_request<P: Print>(w: &mut Writer<'_, P>, th: &Thread, h: &Held)
     ensures { Puts w.old (request_text th.now h.now) w.new }
 {
     put_field(w, b" obj=", u32::from(th.object));
@@ -55,7 +55,7 @@ fn put_request<P: Print, const N: usize>(w: &mut Writer<P, N>, th: &Thread, h: &
 }
 
 // The held words, what the thread waits for and the message that it would send.
-fn put_held<P: Print, const N: usize>(w: &mut Writer<P, N>, th: &Thread, h: &Held)
+fn put_held<P: Print>(w: &mut Writer<'_, P>, th: &Thread, h: &Held)
     ensures { Puts w.old (held_text th.now h.now) w.new }
 {
     w.put_text(b" words=");
@@ -66,7 +66,7 @@ fn put_held<P: Print, const N: usize>(w: &mut Writer<P, N>, th: &Thread, h: &Hel
 }
 
 // A thread's line, nothing where it is not created.
-fn put_record<P: Print, const N: usize>(w: &mut Writer<P, N>, t: u32, th: &Thread, h: &Held)
+fn put_record<P: Print>(w: &mut Writer<'_, P>, t: u32, th: &Thread, h: &Held)
     ensures { Puts w.old (record_text t th.now h.now) w.new }
 {
     if !th.created {
@@ -79,8 +79,8 @@ fn put_record<P: Print, const N: usize>(w: &mut Writer<P, N>, t: u32, th: &Threa
     w.put_byte(b'\n');
 }
 
-pub fn put_threads<P: Print, const N: usize>(
-    w: &mut Writer<P, N>,
+pub fn put_threads<P: Print>(
+    w: &mut Writer<'_, P>,
     threads: &[Thread; THREADS],
     held: &[Held; THREADS],
 )
@@ -94,7 +94,7 @@ pub fn put_threads<P: Print, const N: usize>(
 }
 
 // The order of a priority, nothing where it is empty.
-fn put_order<P: Print, const N: usize>(w: &mut Writer<P, N>, priority: u32, l: &Line)
+fn put_order<P: Print>(w: &mut Writer<'_, P>, priority: u32, l: &Line)
     ensures { Puts w.old (order_text priority (members l.now)) w.new }
 {
     if l.size() == 0 {
@@ -104,7 +104,8 @@ fn put_order<P: Print, const N: usize>(w: &mut Writer<P, N>, priority: u32, l: &
     put_line(w, l);
 }
 
-pub fn put_orders<P: Print, const N: usize>(w: &mut Writer<P, N>, s: &Scheduler)
+// A loop of its own, and not `put_table`'s: the orders go over the priorities, not over a table.
+pub fn put_orders<P: Print>(w: &mut Writer<'_, P>, s: &Scheduler)
     ensures { Puts w.old (orders_text s.now) w.new }
 {
     w.put_nothing();

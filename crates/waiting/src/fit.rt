@@ -47,7 +47,7 @@ pub fn resting_fits(h: Held) -> bool
     (h.status != WAITING) & !h.sending & !h.front & ((h.request == 0) & (h.option == 0))
 }
 
-// Whether a thread that is not created may hold this: it is zero.
+// Whether a thread that is not created may hold this: it is zero. By hand: of the derived equality with a zero record the proof did not close.
 #[tactic(auto, unfolding(crate::specs::Fit::held_zerob))]
 pub fn unheld_fits(h: Held) -> bool
     ensures { result ≡ held_zerob h }
@@ -94,7 +94,8 @@ pub fn pool_waits(p: Pool) -> bool
     p.created & (p.free == 0)
 }
 
-// Whether every semaphore's record is fit in itself. One function for both tables would take the test as a closure and be no shorter.
+// Whether every semaphore's record is fit in itself. One function for both tables would take the test as a closure and be no shorter. Every record
+// is looked at, whatever is found.
 pub fn semaphores_fit(all: [Semaphore; SEMAPHORES]) -> bool
     ensures { result ≡ semaphores_fitb all }
 {

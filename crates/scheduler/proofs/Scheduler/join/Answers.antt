@@ -2,8 +2,6 @@ use mathlib.Core.Path.{◌≡◌, refl, sym, ◌∙◌, subst}
 use mathlib.Core.Bool.{Bool, true, false}
 use mathlib.Core.List.{append-nil}
 use Prim.Native.Nat.{ℕ}
-use native.Mathlib.Omega.{arith}
-use lib.ListN.{length}
 use Rattle.lines.specs.Lists.{without, to_end, to_front}
 use Rattle.lines.specs.Lines.{members}
 use Rattle.lines.specs.declared.Line.{Line}
@@ -11,10 +9,8 @@ use Rattle.scheduler.specs.declared.thread.Thread.{Thread}
 use Rattle.scheduler.specs.declared.Scheduler.{Scheduler}
 use Rattle.scheduler.specs.Threads.{standsb}
 use Rattle.scheduler.specs.Orders.{with_thread, with_order, moved, moved_front, joined}
-use Rattle.scheduler.proofs.Laws.Threads.{length_mapped}
-use Rattle.scheduler.proofs.Laws.Orders.{thread_out}
 use Rattle.scheduler.proofs.Scheduler.join.Goals as goal
-use Rattle.scheduler.proofs.Scheduler.join.Goals.{then-i-lt-THREADS, else-i-lt-THREADS, then-not-is_standing, else-not-is_standing+then-front, else-not-is_standing+else-front}
+use Rattle.scheduler.proofs.Scheduler.join.Goals.{then-not-is_standing, else-not-is_standing+then-front, else-not-is_standing+else-front}
 
 -- the line that the record asks for
 module _ (s : Scheduler) (t : ℕ) (th : Thread) where
@@ -36,9 +32,7 @@ unfolding with_order with_thread
 returns c =
     let a = c.args in
     let s : Scheduler = a.self.now in
-    let e : length s.threads ≡ 32 = search length_mapped in
-    let stored : c.if-i-lt-THREADS.self ≡ with_thread s a.t.0 a.th =
-    (elim c.if-i-lt-THREADS.branch [ then-i-lt-THREADS w ↦ w.self-is | else-i-lt-THREADS w ↦ w.self-is ∙ sym (thread_out s a.t.0 a.th (let l = w.if-i-lt-THREADS.false in omega (arith, e, l))) ]) in
+    let stored : ◌≡◌ {A = Scheduler} (record { running = s.running; order = s.order; threads = c.store.new.all }) (with_thread s a.t.0 a.th) = rw c.store.ensures refl in
     let ordered = λ (l : Line) (x : Scheduler). ◌≡◌ {A = Scheduler} (record { running = x.running; order = l; threads = x.threads }) (joined s a.front a.t.0 a.th) in
     subst (λ (x : Scheduler). ordered c.if-not-is_standing.self x) (sym stored)
     (elim c.if-not-is_standing.branch [

@@ -25,7 +25,8 @@ loop-x-preserved c =
     let l = c.loop-x in
     let f : ℕ → Bool = λ t. placedb a.p (thread_at a.self t) in
     let xs = c.as_slice-x-items.result.now in
-    let y = ap (placedb a.p) (sym c.record_of.ensures) ∙ sym c.is_at.ensures in
+    let r : thread_at a.self (get_or xs l.x-index 0) ≡ c.record_in.result = cc in
+    let y = ap (placedb a.p) r ∙ sym c.is_at.ensures in
     elim c.if-is_at.branch [
       | then-is_at w ↦ w.l-is ∙ pushes (filter f (take l.x-index xs)) (get_or xs l.x-index 0) w.push.ensures l.invariant
           ∙ ap line_of (sym (kept_one f l.x-index xs (omega arith) (y ∙ w.if-is_at.true)))

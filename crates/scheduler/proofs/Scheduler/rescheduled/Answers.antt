@@ -2,7 +2,7 @@ use mathlib.Core.Path.{◌≡◌, refl, sym, ap, ◌∙◌}
 use mathlib.Core.Bool.{Bool, true, false, ◌&&◌, not}
 use Prim.Native.Nat.{ℕ, ◌<◌, ◌≤◌}
 use native.Mathlib.Omega.{arith}
-use lib.ListN.{length, length-set}
+use lib.ListN.{length, length-set, get_or}
 use lib.Dec.{ltb}
 use Rattle.std.specs.Prelude.{if◌then◌else◌}
 use Rattle.lines.specs.Lists.{filter}
@@ -31,7 +31,7 @@ module _ (c : goal.Joined-i-lt-THREADS) where
   gives_up = c.args.relinquished
 
   sized : length s.threads ≡ 32
-  sized = let w = c.well_formed.0 in search (length_mapped, w)
+  sized = search length_mapped
 
   -- ---- what the pass has found
   ready-found : Found (priority_at s) (filter (λ t. readyb (thread_at s t)) (members s.order)) c.loop-x.ready
@@ -50,9 +50,12 @@ module _ (c : goal.Joined-i-lt-THREADS) where
   marked-best = (passed_all s markedb _ _ c.in-None.ensures.steps.0 c.loop-x.invariant.marked).0
 
   -- ---- the runner, and who goes on unless it is overtaken
-  stays-test : (c.is_ready.result && not gives_up) ≡ staysb s gives_up
+  runner-record : c.record_in-runner.result ≡ thread_at s (runner s)
   unfolding thread_at
-  stays-test = ap (λ (x : Bool). x && not gives_up) c.is_ready.ensures ∙ stays_from s gives_up c.record_of-runner.result c.record_of-runner.ensures
+  runner-record = c.record_in-runner.ensures ∙ ap (get_or s.threads (runner s)) c.uncreated.ensures
+
+  stays-test : (c.is_ready.result && not gives_up) ≡ staysb s gives_up
+  stays-test = ap (λ (x : Bool). x && not gives_up) c.is_ready.ensures ∙ stays_from s gives_up c.record_in-runner.result runner-record
 
   abbrev t : ℕ
   t = c.if-stays.next.0
@@ -66,11 +69,14 @@ module _ (c : goal.Joined-i-lt-THREADS) where
             ∙ ap (λ (x : Bool). if x then runner s else best_marked s) (sym w.if-stays.false ∙ stays-test)
       ]
 
-  overtakes-test : c.overtakes.result ≡ overtakesb s t
+  other-record : c.record_in-other.result ≡ thread_at s t
   unfolding thread_at
+  other-record = c.record_in-other.ensures ∙ ap (get_or s.threads t) c.uncreated-2.ensures
+
+  overtakes-test : c.overtakes.result ≡ overtakesb s t
   overtakes-test =
       c.overtakes.ensures
-      ∙ overtakes_from s t c.loop-x.ready.id.0 t c.loop-x.ready.key c.record_of-other.result ready-best refl ready-key c.record_of-other.ensures
+      ∙ overtakes_from s t c.loop-x.ready.id.0 t c.loop-x.ready.key c.record_in-other.result ready-best refl ready-key other-record
 
   -- ---- the runner that is replaced, and the next thread
   is-best : c.if-overtakes.next ≡ c.loop-x.ready.id → c.if-overtakes.next.0 ≡ best_ready s
@@ -96,7 +102,7 @@ module _ (c : goal.Joined-i-lt-THREADS) where
         | then-overtakes w ↦
             elim w.if-stays-2.branch [
               | then-stays-2 v ↦
-                  over true (stays true v.if-stays-2.true) w.if-overtakes.true (w.self-is ∙ v.self-is ∙ ap (λ (th : Thread). with_thread s (runner s) (with_mark (ltb th.threshold th.priority) (thread_at s (runner s)))) c.record_of-runner.ensures) w.next-is
+                  over true (stays true v.if-stays-2.true) w.if-overtakes.true (w.self-is ∙ v.self-is ∙ ap (λ (th : Thread). with_thread s (runner s) (with_mark (ltb th.threshold th.priority) (thread_at s (runner s)))) runner-record) w.next-is
               | else-stays-2 v ↦ over false (stays false v.if-stays-2.false) w.if-overtakes.true (w.self-is ∙ v.self-is) w.next-is
             ]
         | else-overtakes w ↦
@@ -150,8 +156,9 @@ pub bounds-self-r : goal.bounds-self-r
 unfolding thread_at
 bounds-self-r c =
     let a = c.args in
-    let e : length a.self.threads ≡ 32 = (let w = c.well_formed.0 in search (length_mapped, w)) in
-    let r = sym (ap readyb c.record_of-runner.ensures) ∙ sym c.is_ready.ensures in
+    let e : length a.self.threads ≡ 32 = search length_mapped in
+    let t : c.record_in-runner.result ≡ thread_at a.self a.self.running.0 = c.record_in-runner.ensures ∙ ap (get_or a.self.threads a.self.running.0) c.uncreated.ensures in
+    let r = sym (ap readyb t) ∙ sym c.is_ready.ensures in
     ready_small a.self a.self.running.0 e (r ∙ and_left c.is_ready.result (not a.relinquished) c.if-stays-2.true)
 
 pub returns : goal.returns

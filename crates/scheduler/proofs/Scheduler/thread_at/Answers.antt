@@ -3,4 +3,4 @@ use Rattle.scheduler.proofs.Scheduler.thread_at.Goals as goal
 
 pub returns : goal.returns
 unfolding thread_at
-returns c = c.record_of.ensures
+returns c = cc
