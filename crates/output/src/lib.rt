@@ -106,6 +106,16 @@ impl<'a, P: Print> Writer<'a, P> {
     }
 }
 
+impl<'a, P: Drop> Writer<'a, P> {
+    // The buffer as it is, for whoever lent it.
+    pub fn into_buffer(self) -> &'a mut [u8]
+        ensures { result.now ≡ self.entry.bytes }
+    {
+        let Writer { out: _, buf, at: _ } = self;
+        buf
+    }
+}
+
 // Writes the text up to a position, all of it where the position is past it. It takes the text by `&mut`, since a caller that lends by `&`
 // what lies behind its own `&mut` knows the bytes no longer.
 fn write_out<P: Print>(out: &P, text: &mut [u8], at: usize)
