@@ -2,13 +2,13 @@
 use mathlib.Core.Path.{◌≡◌, refl, sym, ap, ◌∙◌, ap₂}
 use mathlib.Core.List.{List, [], ◌∷◌, ◌++◌, append_assoc, append-nil}
 use mathlib.Core.Bool.{Bool, true, false, ◌||◌}
-use Prim.Native.Nat.{ℕ, zero, suc, ◌+◌, ◌≤◌, ◌<◌, min}
+use Prim.Native.Nat.{ℕ, zero, suc, ◌+◌, ◌-◌, ◌≤◌, ◌<◌, min}
 use native.Mathlib.Nat.{not-suc-le-zero, le_of_suc-le-suc}
 use native.Mathlib.Omega.{arith}
 use native.Mathlib.Numerals.{add-one}
-use lib.ListN.{length, take, get_or, set, replicate, length-append, length-take}
+use lib.ListN.{length, take, drop, get_or, set, replicate, length-append, length-take}
 use lib.Dec.{eqb, ltb, leb}
-use lib.Seq.{take_all, take-append-le, take-nil}
+use lib.Seq.{take_all, take-append-le, take-nil, get_or-take, drop-cons, drop-length, length-take-le}
 use borrow.Author.Tests.{eq-eqb, le-leb, ltb-true, ltb-false}
 use Rattle.std.proofs.lemmas.List.{take_more}
 use Rattle.lines.specs.declared.Line.{Line}
@@ -174,6 +174,21 @@ module _ (f : ℕ → Bool) (i : ℕ) (xs : List ℕ) (h : i < length xs) where
   pub left_one : f (get_or xs i 0) ≡ false → filter f (take (i + 1) xs) ≡ filter f (take i xs)
   unfolding filter
   left_one e = one_on ∙ ap {B = List ℕ} (λ r. filter f (take i xs) ++ r) (filter_no f (get_or xs i 0) [] e) ∙ append-nil (filter f (take i xs))
+
+-- one slot back in the first n
+pub back : (n i : ℕ) (xs : List ℕ) → 0 < i → i ≤ length (take n xs) → drop (i - 1) (take n xs) ≡ get_or xs (i - 1) 0 ∷ drop i (take n xs)
+back n i xs pos le =
+    let e : suc (i - 1) ≡ i = omega arith in
+    let w = length-take n xs in
+    let g = get_or-take n xs (i - 1) 0 (omega (arith, w)) in
+    drop-cons (take n xs) (i - 1) 0 (omega arith)
+    ∙ (λ j. g j ∷ drop (e j) (take n xs))
+
+-- nothing is left at the end
+pub back_start : (n : ℕ) (xs : List ℕ) → n ≤ length xs → drop n (take n xs) ≡ []
+back_start n xs h =
+    let d = length-take-le n xs h in
+    ap (λ (k : ℕ). drop k (take n xs)) (sym d) ∙ drop-length (take n xs)
 
 -- ---- clean lines
 pub line_of_clean : (xs : List ℕ) → cleanb (line_of xs) ≡ true

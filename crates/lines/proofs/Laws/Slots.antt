@@ -2,19 +2,20 @@
 use mathlib.Core.Path.{◌≡◌, refl, sym, ap, ap₂, ◌∙◌}
 use mathlib.Core.List.{List, [], ◌∷◌, ◌++◌}
 use mathlib.Core.Bool.{Bool, true, false, ◌&&◌, ◌||◌, and-true}
-use Prim.Native.Nat.{ℕ, zero, suc, ◌≤◌, ◌<◌, min}
-use native.Mathlib.Nat.{not-suc-le-zero, le_of_suc-le-suc}
+use Prim.Native.Nat.{ℕ, zero, suc, ◌-◌, ◌*◌, ◌≤◌, ◌<◌, min}
+use native.Mathlib.Nat.{not-suc-le-zero, le_of_suc-le-suc, mul-le-mul, zero-min, suc-min-suc, sub-zero, zero-sub, suc-sub-suc}
 use native.Mathlib.Omega.{arith}
 use native.Mathlib.Numerals.{add-one}
-use lib.ListN.{length, take, drop, get_or, replicate}
-use lib.Seq.{drop-nil, drop-append-le, length-take-le}
+use lib.ListN.{length, take, drop, get_or, replicate, length-take}
+use lib.Seq.{take-nil, drop-nil, drop-append-le, length-take-le}
+use lib.Bits.{bit_or, and_le_l, and_le_r, or_add_and}
 use Rattle.std.specs.List.{list_all}
 use Rattle.std.proofs.lemmas.List.{drop_min, take_more, drop_all, take_all}
 use Rattle.std.proofs.lemmas.List.Folds.{list_all-append}
 use lib.Dec.{eqb, ltb}
-use borrow.Author.Tests.{eq-eqb, ltb-true, ltb-false}
+use borrow.Author.Tests.{eqb-true, eq-eqb, ltb-true, ltb-false}
 use Rattle.lines.specs.Logic.{all_below}
-use Rattle.lines.proofs.Laws.Logic.{by_test, or_left, or_right, all_in}
+use Rattle.lines.proofs.Laws.Logic.{by_test, and_left, and_right, and_in, or_left, or_right, all_in}
 use Rattle.lines.specs.Lines.{pad}
 use Rattle.lines.specs.Slots.{zero_from, filled}
 
@@ -29,6 +30,35 @@ pub all_same : (n : ℕ) (f g : ℕ → Bool) → ((i : ℕ) → i < n → f i �
 unfolding all_below
 all_same zero f g h = refl
 all_same (suc n) f g h = ap₂ ◌&&◌ (all_same n f g (λ i l. h i (omega arith))) (h n (omega arith))
+
+-- the product of two bytes
+pub product_small : (a b : ℕ) → a < 256 → b < 256 → a * b ≤ 255 * 255
+product_small a b h g = mul-le-mul (let l : a ≤ 255 = omega arith in l) (let l : b ≤ 255 = omega arith in l)
+
+-- as many as a list has of its first n are its first n
+pub take_again : (n : ℕ) (xs : List ℕ) → take (length (take n xs)) xs ≡ take n xs
+take_again zero xs = refl
+take_again (suc n) [] = refl
+take_again (suc n) (x ∷ xs) = ap {B = List ℕ} (λ r. x ∷ r) (take_again n xs)
+
+-- no more than a list has
+pub take_most : (n k : ℕ) (xs : List ℕ) → k ≡ min n (length xs) → take k xs ≡ take n xs
+take_most n k xs e = ap (λ (j : ℕ). take j xs) (e ∙ sym (length-take n xs)) ∙ take_again n xs
+
+pub drop_most : (n k : ℕ) (xs : List ℕ) → k ≡ min n (length xs) → drop k xs ≡ drop n xs
+drop_most n k xs e = ap (λ (j : ℕ). drop j xs) e ∙ go n xs
+  where
+    go : (n : ℕ) (xs : List ℕ) → drop (min n (length xs)) xs ≡ drop n xs
+    go zero xs = ap (λ (j : ℕ). drop j xs) (zero-min (length xs))
+    go (suc n) [] = drop-nil (min (suc n) 0)
+    go (suc n) (x ∷ xs) = ap (λ (j : ℕ). drop j (x ∷ xs)) (suc-min-suc n (length xs)) ∙ go n xs
+
+-- a part from j to k
+pub part : (j k : ℕ) (xs : List ℕ) → take (k - j) (drop j xs) ≡ drop j (take k xs)
+part zero k xs = ap (λ (n : ℕ). take n xs) (sub-zero k)
+part (suc j) zero xs = ap (λ (n : ℕ). take n (drop (suc j) xs)) (zero-sub (suc j))
+part (suc j) (suc k) [] = take-nil (suc k - suc j)
+part (suc j) (suc k) (x ∷ xs) = ap (λ (n : ℕ). take n (drop j xs)) (suc-sub-suc k j) ∙ part j k xs
 
 -- ---- zero behind what is in use
 module _ (n : ℕ) (xs : List ℕ) where
@@ -47,6 +77,19 @@ module _ (n : ℕ) (xs : List ℕ) where
 pub none_used : (a : Bool) (n : ℕ) (xs : List ℕ) → (a ≡ true → n ≡ 0) → (a && zero_from n xs) ≡ (a && zero_from 0 xs)
 none_used true n xs h = ap (λ (k : ℕ). zero_from k xs) (h refl)
 none_used false n xs h = refl
+
+-- ---- all zero, as a loop finds it that joins the bits of all slots
+-- the joined bits of two numbers are none where both numbers are zero
+pub or_none : (a b : ℕ) → eqb (bit_or a b) 0 ≡ (eqb a 0 && eqb b 0)
+or_none a b =
+    same_test (eqb (bit_or a b) 0) (eqb a 0 && eqb b 0)
+    (λ e. let z = eqb-true (bit_or a b) 0 e in
+    and_in (eqb a 0) (eqb b 0)
+    (eq-eqb a 0 (omega (arith, z, or_add_and a b, and_le_r a b)))
+    (eq-eqb b 0 (omega (arith, z, or_add_and a b, and_le_l a b))))
+    (λ e. let p = eqb-true a 0 (and_left (eqb a 0) (eqb b 0) e) in
+    let q = eqb-true b 0 (and_right (eqb a 0) (eqb b 0) e) in
+    eq-eqb (bit_or a b) 0 (omega (arith, p, q, or_add_and a b)))
 
 -- ---- all zero, as a test of each slot finds it
 -- the first k slots, those from n on looked at one by one

@@ -19,10 +19,10 @@ pub slot-min : (x : ℕ) → slot_of x ≡ min x 32
 unfolding slot_of
 slot-min x = by_choice (λ (z : ℕ). z ≡ min x 32) (ltb x 32) _ _ (λ q. let l = ltb-true x 32 q in omega (arith, l)) (λ q. let l = ltb-false x 32 q in omega (arith, l))
 
-slot_in : (x : ℕ) → x < 32 → slot_of x ≡ x
+pub slot_in : (x : ℕ) → x < 32 → slot_of x ≡ x
 slot_in x h = omega (arith, slot-min x)
 
-slot_out : (x : ℕ) → 32 ≤ x → slot_of x ≡ 32
+pub slot_out : (x : ℕ) → 32 ≤ x → slot_of x ≡ 32
 slot_out x h = omega (arith, slot-min x)
 
 pub tally-length : (xs : List ℕ) → length (tally xs) ≡ 33
