@@ -2,9 +2,11 @@
 use mathlib.Core.Path.{◌≡◌, sym, ap, ◌∙◌, subst}
 use mathlib.Core.List.{List, [], ◌∷◌, ◌++◌, append_assoc, append-nil}
 use mathlib.Core.Bool.{Bool, true, false}
-use Prim.Native.Nat.{ℕ, ◌<◌, ◌≤◌}
+use Prim.Native.Nat.{ℕ, suc, ◌+◌, ◌<◌, ◌≤◌}
 use native.Mathlib.Omega.{arith}
-use lib.ListN.{length}
+use native.Mathlib.Numerals.{add-one}
+use lib.ListN.{length, take, drop, get_or, length-take}
+use lib.Seq.{drop-cons, get_or-take}
 use lib.Dec.{ltb}
 use borrow.Author.Tests.{ltb-true, ltb-false}
 use Rattle.lines.specs.Lists.{filter, count}
@@ -44,7 +46,7 @@ module _ (s : Scheduler) (f : Thread → Bool) where
 
   module _ (sized : length s.threads ≡ 32) (none : f uncreated ≡ false) where
     -- those for whom it holds are threads
-    held_small : (xs : List ℕ) (u : ℕ) → 0 < count u (filter holds xs) → u < 32
+    pub held_small : (xs : List ℕ) (u : ℕ) → 0 < count u (filter holds xs) → u < 32
     held_small xs u c =
         by_test (ltb u 32) (λ w. ltb-true u 32 w)
         (λ w. absurd (let d = count_dropped holds u xs (ap f (none-at s u sized (ltb-false u 32 w)) ∙ none) in omega (arith, c, d)))
@@ -78,3 +80,10 @@ module _ (s : Scheduler) (f : Thread → Bool) where
                 (found_more (priority_at s) x (filter holds p.behind) (held_small p.behind) b p.best known (omega (arith, byte, y)));
           })
       passed_one false th r known byte h w q = subst (Passed s f left) (sym q) (passed-no (sym w))
+
+-- ---- one slot on in the first n
+pub on : (n i : ℕ) (xs : List ℕ) → i < length (take n xs) → drop i (take n xs) ≡ get_or xs i 0 ∷ drop (i + 1) (take n xs)
+on n i xs h =
+    let w = length-take n xs in
+    let g = get_or-take n xs i 0 (omega (arith, w)) in
+    rw add-one (drop-cons (take n xs) i 0 h ∙ ap (λ (z : ℕ). z ∷ drop (suc i) (take n xs)) g)
