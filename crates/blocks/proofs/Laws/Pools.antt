@@ -134,6 +134,12 @@ module _ (p : Pool) (e : pool_fitb p ≡ true) (u : p.created ≡ true) where
   unfolding free_blocks
   fit_length l = let m = length-take p.free p.list in let f = fit_free in let b = fit_blocks.1 in omega (arith, m, f, b, l)
 
+-- ---- the free blocks, as they are read from the list
+module _ (p : Pool) (n : ℕ) (e : n ≡ length (free_blocks p)) where
+  pub listed_most : n ≤ length p.list
+  unfolding free_blocks
+  listed_most = let m = length-take p.free p.list in omega (arith, m, e)
+
 -- ---- a pool with other free blocks
 -- the list has room for 64
 pub listing-take : (p : Pool) (xs : List ℕ) → listing p (take 64 xs) ≡ listing p xs
