@@ -13,7 +13,7 @@ use Rattle.std.specs.List.{list_all}
 use Rattle.std.proofs.lemmas.List.{drop_min, take_more, drop_all, take_all}
 use Rattle.std.proofs.lemmas.List.Folds.{list_all-append}
 use lib.Dec.{eqb, ltb}
-use borrow.Author.Tests.{eqb-true, eq-eqb, ltb-true, ltb-false}
+use borrow.Author.Tests.{eqb-true, eq-eqb, lt-ltb, le-ltb, ltb-true, ltb-false}
 use Rattle.lines.specs.Logic.{all_below}
 use Rattle.lines.proofs.Laws.Logic.{by_test, and_left, and_right, and_in, or_left, or_right, all_in}
 use Rattle.lines.specs.Lines.{pad}
@@ -120,6 +120,16 @@ zero_behind n m k xs e g =
 pub zero_rest : (n m : ℕ) (xs : List ℕ) → length xs ≡ 64 → m ≡ min n 64 → list_all (λ x. eqb x 0) (drop m xs) ≡ zero_from n xs
 unfolding zero_from
 zero_rest n m xs e g = zero_behind n m 64 xs e g
+
+-- 64 slots have no more in use than 64
+pub zero_cut : (n m : ℕ) (xs : List ℕ) → m ≡ min n 64 → zero_from m xs ≡ zero_from n xs
+unfolding zero_from
+zero_cut n m xs e =
+    all_same 64 (λ k. ltb k m || eqb (get_or xs k 0) 0) (λ k. ltb k n || eqb (get_or xs k 0) 0)
+    (λ k l. ap (λ (b : Bool). b || eqb (get_or xs k 0) 0)
+    (by_test (ltb k n)
+    (λ w. lt-ltb k m (let h = ltb-true k n w in omega (arith, h, e, l)) ∙ sym w)
+    (λ w. le-ltb k m (let h = ltb-false k n w in omega (arith, h, e, l)) ∙ sym w)))
 
 -- ---- slots filled from the front
 -- filled with zeros, they are padded
