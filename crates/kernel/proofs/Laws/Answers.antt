@@ -1,17 +1,22 @@
 -- Laws of answers and of reasons to refuse.
 use mathlib.Core.Path.{◌≡◌, refl, sym, ap, ◌∙◌}
 use mathlib.Core.Bool.{Bool, true, false}
-use Prim.Native.Nat.{ℕ, ◌<◌}
+use Prim.Native.Nat.{ℕ, ◌≤◌, ◌<◌}
 use native.Mathlib.Omega.{arith}
+use lib.ListN.{length}
+use lib.Seq.{set_out}
 use lib.Dec.{eqb, ltb}
 use borrow.Author.Tests.{eq-eqb, eqb-true, ne_eqb, ltb-true}
 use Rattle.std.specs.Prelude.{if◌then◌else◌}
 use Rattle.lines.proofs.Laws.Logic.{by_test}
 use Rattle.objects.specs.declared.semaphore.Semaphore.{Semaphore}
+use Rattle.objects.specs.declared.queue.Queue.{Queue}
 use Rattle.objects.specs.Semaphores.{largest_count}
+use Rattle.calls.specs.declared.held.Held.{Held}
 use Rattle.calls.specs.Statuses.{ceiling_exceeded}
 use Rattle.calls.specs.Chains.{unless, first_of, put_refusal, ceiling_refusal}
 use Rattle.kernel.specs.declared.Kernel.{Kernel}
+use Rattle.kernel.specs.Tables.{with_held, with_queue}
 use Rattle.kernel.specs.Answers.{refused}
 use Rattle.kernel.specs.Edits.{Effect, carried_out, guarded}
 
@@ -55,3 +60,13 @@ unfolding ceiling_refusal
 ceiling_low x ceiling h z =
     let l = ltb-true x.count ceiling (unless_none (ltb x.count ceiling) ceiling_exceeded (omega arith) (second_none _ _ (second_none _ _ z))) in
     omega (arith, h, l)
+
+-- ---- past the table nothing is stored
+pub held_out : (k : Kernel) (t : ℕ) (h : Held) → length k.held ≡ 32 → 32 ≤ t → with_held k t h ≡ k
+unfolding with_held
+held_out k t h e o = rw (set_out k.held t h (omega (arith, e, o)))
+
+-- a queue past the table
+pub queue_out : (k : Kernel) (n : ℕ) (q : Queue) → length k.queues ≡ 8 → 8 ≤ n → with_queue k n q ≡ k
+unfolding with_queue
+queue_out k n q e o = rw (set_out k.queues n q (omega (arith, e, o)))

@@ -66,10 +66,15 @@ on-served k caller ms {y = y} n e =
     ∙ ap (λ (z : Call). guarded k (if nobody_runsb caller (runner_of k) then Statuses.nobody_runs else chain_of k caller z ms) (effect_of k z ms)) (sym e)
 
 -- ---- services
+-- a service that finds a reason is refused for it
+pub refused_by : (k : Kernel) {found reason : ℕ} (e : Effect) {r : Answer}
+    → r ≡ answer_of (refused k found) → found ≡ reason → (found ≡ 0 → ⊥) → r ≡ answer_of (guarded k reason e)
+refused_by k {reason = reason} e p q n = p ∙ ap answer_of (ap (refused k) q ∙ sym (is-refused k reason e (λ w. n (q ∙ w))))
+
 -- a service that is refused for a reason is refused for the first that holds, whose status is not 0
-pub refused_by : (k : Kernel) {found reason : ℕ} (e : Effect) (why : Refusal) {r : Answer}
+pub refused_for : (k : Kernel) {found reason : ℕ} (e : Effect) (why : Refusal) {r : Answer}
     → r ≡ answer_of (refused k found) → found ≡ Reasons.status_of why → Reasons.status_of why ≡ reason → r ≡ answer_of (guarded k reason e)
-refused_by k {reason = reason} e why p q z =
+refused_for k {reason = reason} e why p q z =
     p ∙ ap answer_of (ap (refused k) (q ∙ z) ∙ sym (is-refused k reason e (λ w. let h = status_above why in absurd (omega (arith, h, z, w)))))
 
 -- a service that is done has carried out edits, and so many waits have ended as they end

@@ -1,13 +1,14 @@
 -- The test of soundness holds exactly of sound tables; what the test finds, thread by thread.
-use mathlib.Core.Path.{◌≡◌, refl, ap₂, ◌∙◌}
+use mathlib.Core.Path.{◌≡◌, refl, sym, ap, ap₂, ◌∙◌}
 use mathlib.Core.Bool.{Bool, true, false, not, ◌&&◌, and-true, and-false}
-use Prim.Native.Nat.{ℕ, ◌+◌, ◌<◌}
+use Prim.Native.Nat.{ℕ, ◌+◌, ◌<◌, ◌≤◌}
+use native.Mathlib.Omega.{arith}
 use lib.ListN.{length}
 use borrow.Author.Tests.{ne_eqb, not-false}
 use Rattle.lines.specs.Logic.{one_if, implies, all_below}
 use Rattle.lines.specs.Lists.{filter, count, below, first, first_with, leastb, best_of}
 use Rattle.lines.specs.Lines.{members, pad, line_of, cleanb}
-use Rattle.lines.proofs.Laws.Logic.{and_left, and_right, and_in, implies_out, implies_in, all-at, all_in, all_more}
+use Rattle.lines.proofs.Laws.Logic.{never, and_left, and_right, and_in, implies_out, implies_in, all-at, all_in, all_more}
 use Rattle.scheduler.specs.declared.thread.Thread.{Thread}
 use Rattle.scheduler.specs.Threads.{uncreated, readyb, waitsb, sleepsb, pausedb, standsb}
 use Rattle.scheduler.specs.Orders as Orders
@@ -21,6 +22,7 @@ use Rattle.objects.specs.Groups.{no_group}
 use Rattle.blocks.specs.Pools.{no_pool, pool_zerob, pool_fitb}
 use Rattle.calls.specs.declared.held.Held.{Held}
 use Rattle.calls.specs.Held.{holding, held_words, message_of}
+use Rattle.waiting.proofs.Laws.Fit.{waits_nowhere}
 use Rattle.waiting.specs.Fit.{blank_from, waits_onb, sendsb, status_fitb, words_fitb, sender_fitb, request_fitb, unheld_fitb, held_fitb, semaphores_fitb, queues_fitb, groups_fitb, pools_fitb}
 use Rattle.kernel.specs.declared.Kernel.{Kernel}
 use Rattle.kernel.specs.Tables.{started, thread_of, held_at, semaphore_at, queue_at, group_at, pool_at}
@@ -28,11 +30,26 @@ use Rattle.kernel.specs.Kinds.{Kind, size_of, state_on, table_of, object_at, rec
 use Rattle.kernel.specs.Kinds.Kind.{semaphore, queue, group, pool}
 use Rattle.kernel.specs.Loops.{asks_fitb}
 use Rattle.kernel.specs.Sound.{wait_fitb, soundb, Sized, MayWait, Sound}
+use Rattle.kernel.proofs.Laws.Objects
 use Rattle.kernel.proofs.Laws.Objects.{by_kind}
 
 -- ---- one thread more of a test of all
 pub one_more : (f : ℕ → Bool) (t : ℕ) (ok b : Bool) → ok ≡ all_below t f → b ≡ f t → (ok && b) ≡ all_below (t + 1) f
 one_more f t ok b p q = ap₂ ◌&&◌ p q ∙ all_more f t
+
+pub none_more : (f : ℕ → Bool) (t : ℕ) (ok : Bool) → ok ≡ all_below t f → f t ≡ true → ok ≡ all_below (t + 1) f
+none_more f t ok p q = sym (and-true ok) ∙ one_more f t ok true p (sym q)
+
+pub past_more : (f : ℕ → Bool) (t : ℕ) → f t ≡ false → false ≡ all_below (t + 1) f
+past_more f t q = sym (and-false (all_below t f)) ∙ one_more f t (all_below t f) false refl (sym q)
+
+-- ---- a test of two parts, where the first holds, is the second
+pub and-rest : {a b c : Bool} → c ≡ (a && b) → a ≡ true → c ≡ b
+and-rest {b = b} e h = e ∙ ap (λ (x : Bool). x && b) h
+
+-- ---- a number against the size of a table
+pub outside : {n m l : ℕ} → m ≤ n → l ≡ m → l ≤ n
+outside h e = omega arith
 
 -- ---- what is asked of the object that a thread waits on, kind by kind
 module _ (k : Kernel) (t : ℕ) where
@@ -50,6 +67,21 @@ module _ (k : Kernel) (t : ℕ) where
   asks : MayWait k (thread_of k t) (held_at k t) → wait_fitb k t ≡ true
   unfolding wait_fitb
   asks W = and_in _ _ (and_in _ _ (and_in _ _ (implies_in _ _ (W queue)) (implies_in _ _ (W semaphore))) (implies_in _ _ (W group))) (implies_in _ _ (W pool))
+
+-- ---- the same of a thread that is as its table has it
+module _ (k : Kernel) (t : ℕ) (th : Thread) (e : th ≡ thread_of k t) where
+  abbrev on : ℕ → Bool → Type 0
+  on state b = waits_onb state th ≡ b
+
+  abbrev kept : (state : ℕ) (b : Bool) → on state b → waits_onb state (thread_of k t) ≡ b
+  kept state b w = sym (ap (waits_onb state) e) ∙ w
+
+  pub waits_none : ((d : Kind) → on (state_on d) false) → wait_fitb k t ≡ true
+  waits_none h = asks k t (λ d w. never w (kept (state_on d) false (h d)))
+
+  -- who neither waits nor sleeps
+  pub waits-rest : pausedb th ≡ false → wait_fitb k t ≡ true
+  waits-rest p = waits_none (λ d. waits_nowhere (state_on d) th (Objects.state_low d) p)
 
 -- ---- the same of a record and what it holds, as the code asks it: by the state
 module _ (k : Kernel) (th : Thread) (h : Held) where

@@ -92,7 +92,10 @@ module _ (d : Kind) (k : Kernel) (F : Fit k) (i : ℕ) where
   unfolding serve_effect
   serve_proper n a words q m = Effects.proper_end k F n a first (served d i) words tt (first-waits q) m
 
-  -- the record of a new object
+  -- a record on which nobody waits, and the record of a new object
+  pub unwaited : (x : Object d) → i < size_of d → record_fitb d x ≡ true → waitedb k d i ≡ false → Fits.Stored d k i x
+  unwaited x small fit q = record { small = small; fit = fit; free = λ t l. nobody-waits q t }
+
   pub new-stored : (x : Object d) → (ltb i (size_of d) && not (createdb d (object_at d k i))) ≡ true → record_fitb d x ≡ true → Fits.Stored d k i x
   new-stored x new fit =
       record {

@@ -30,7 +30,7 @@ module _ (c : Cause) (words : List ℕ) where
   each_last k (x ∷ xs) t = each_last (edited k (moves x (ends c words))) xs t
 
   -- one more of a line, in a loop that keeps the scheduler beside the tables
-  each_step : (k self : Kernel) (s : Scheduler) (status : ℕ) (xs : List ℕ) (i : ℕ) → Holds c status → i < length xs → with_scheduler self s ≡ applied k (ends_each c words (take i xs))
+  pub each_step : (k self : Kernel) (s : Scheduler) (status : ℕ) (xs : List ℕ) (i : ℕ) → Holds c status → i < length xs → with_scheduler self s ≡ applied k (ends_each c words (take i xs))
       → with_held (with_scheduler self (woken s (get_or xs i 0))) (get_or xs i 0) (holding status words) ≡ applied k (ends_each c words (take (i + 1) xs))
   unfolding with_scheduler with_held edited record_by held_by frontb joined woken
   each_step k self s status xs i same h e =

@@ -12,13 +12,13 @@ use Rattle.kernel.specs.Loops.{answered}
 use Rattle.kernel.specs.Pools.{release_effect}
 use Rattle.kernel.specs.Tables.{pool_at, with_pool, with_scheduler}
 use Rattle.kernel.proofs.Laws.Answers.{is_carried}
-use Rattle.kernel.proofs.Laws.Arms.{refused_by}
+use Rattle.kernel.proofs.Laws.Arms.{refused_for}
 use Rattle.kernel.proofs.Kernel.block_release.Goals as goal
 use Rattle.kernel.proofs.Kernel.block_release.Goals.{else-first-lt-NOBODY, then-first-lt-NOBODY}
 
 pub returns-in-Err : goal.returns-in-Err
 unfolding pool_at
-returns-in-Err c = refused_by _ _ _ c.refused.ensures c.from.ensures (cc c.in-Err.ensures)
+returns-in-Err c = refused_for _ _ _ c.refused.ensures c.from.ensures (cc c.in-Err.ensures)
 
 pub returns : goal.returns
 unfolding carried_out applied gathered status_of answer_of answered with_scheduler edited endsb release_effect give_effect serve_effect store_effect with_pool pool_at

@@ -9,13 +9,13 @@ use Rattle.kernel.specs.Effects.{close_effect}
 use Rattle.kernel.specs.Kinds.{Kind, place_of}
 use Rattle.kernel.specs.Tables.{group_at, with_group}
 use Rattle.kernel.proofs.Laws.Answers.{is_carried}
-use Rattle.kernel.proofs.Laws.Arms.{refused_by}
+use Rattle.kernel.proofs.Laws.Arms.{refused_for}
 use Rattle.kernel.proofs.Laws.Waits.{closed}
 use Rattle.kernel.proofs.Kernel.event_flags_delete.Goals as goal
 
 pub returns-in-Err : goal.returns-in-Err
 unfolding group_at
-returns-in-Err c = refused_by _ _ _ c.refused.ensures c.from.ensures (cc c.in-Err.ensures)
+returns-in-Err c = refused_for _ _ _ c.refused.ensures c.from.ensures (cc c.in-Err.ensures)
 
 pub returns : goal.returns
 unfolding close_effect status_by with_group group_at

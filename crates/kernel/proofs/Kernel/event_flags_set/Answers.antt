@@ -10,13 +10,13 @@ use Rattle.kernel.specs.Groups.{set_effect}
 use Rattle.kernel.specs.Loops.{answered}
 use Rattle.kernel.specs.Tables.{group_at, with_group, with_scheduler}
 use Rattle.kernel.proofs.Laws.Answers.{is_carried}
-use Rattle.kernel.proofs.Laws.Arms.{refused_by}
+use Rattle.kernel.proofs.Laws.Arms.{refused_for}
 use Rattle.kernel.proofs.Kernel.event_flags_set.Goals as goal
 use Rattle.kernel.proofs.Kernel.event_flags_set.Goals.{else-option-eq0, then-option-eq0}
 
 pub returns-in-Err : goal.returns-in-Err
 unfolding group_at
-returns-in-Err c = refused_by _ _ _ c.refused.ensures c.from.ensures (cc c.in-Err.ensures)
+returns-in-Err c = refused_for _ _ _ c.refused.ensures c.from.ensures (cc c.in-Err.ensures)
 
 pub returns : goal.returns
 unfolding carried_out applied gathered status_of answer_of answered with_scheduler edited set_effect store_effect with_group group_at

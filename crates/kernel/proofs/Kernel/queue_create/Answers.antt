@@ -9,12 +9,12 @@ use Rattle.kernel.specs.Effects.{store_effect}
 use Rattle.kernel.specs.Loops.{answered}
 use Rattle.kernel.specs.Tables.{queue_at, with_queue, with_scheduler}
 use Rattle.kernel.proofs.Laws.Answers.{first_none, is_carried, second_none, unless_none}
-use Rattle.kernel.proofs.Laws.Arms.{refused_by}
+use Rattle.kernel.proofs.Laws.Arms.{refused_for}
 use Rattle.kernel.proofs.Kernel.queue_create.Goals as goal
 
 pub returns-in-Err : goal.returns-in-Err
 unfolding queue_at
-returns-in-Err c = refused_by _ _ _ c.refused.ensures c.from.ensures (cc c.in-Err.ensures)
+returns-in-Err c = refused_for _ _ _ c.refused.ensures c.from.ensures (cc c.in-Err.ensures)
 
 pub returns : goal.returns
 unfolding carried_out applied gathered status_of answer_of answered with_scheduler edited store_effect queue_create_refusal with_queue queue_at

@@ -12,13 +12,13 @@ use Rattle.kernel.specs.Loops.{answered}
 use Rattle.kernel.specs.Queues.{flush_effect}
 use Rattle.kernel.specs.Tables.{queue_at, with_queue, with_scheduler}
 use Rattle.kernel.proofs.Laws.Answers.{is_carried}
-use Rattle.kernel.proofs.Laws.Arms.{refused_by}
+use Rattle.kernel.proofs.Laws.Arms.{refused_for}
 use Rattle.kernel.proofs.Laws.Waits.{closed}
 use Rattle.kernel.proofs.Kernel.queue_flush.Goals as goal
 
 pub returns-in-Err : goal.returns-in-Err
 unfolding queue_at
-returns-in-Err c = refused_by _ _ _ c.refused.ensures c.from.ensures (cc c.in-Err.ensures)
+returns-in-Err c = refused_for _ _ _ c.refused.ensures c.from.ensures (cc c.in-Err.ensures)
 
 pub returns-then-is_empty : goal.returns-then-is_empty
 unfolding carried_out applied gathered status_of answer_of answered with_scheduler flush_effect queue_at

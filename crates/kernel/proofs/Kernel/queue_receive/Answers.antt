@@ -10,13 +10,13 @@ use Rattle.kernel.specs.Loops.{answered}
 use Rattle.kernel.specs.Queues.{past_effect, receive_effect}
 use Rattle.kernel.specs.Tables.{held_at, queue_at, with_queue, with_scheduler}
 use Rattle.kernel.proofs.Laws.Answers.{is_carried}
-use Rattle.kernel.proofs.Laws.Arms.{refused_by}
+use Rattle.kernel.proofs.Laws.Arms.{refused_for}
 use Rattle.kernel.proofs.Kernel.queue_receive.Goals as goal
 use Rattle.kernel.proofs.Kernel.queue_receive.Goals.{else-is_empty+else-first-lt-NOBODY, else-is_empty+then-first-lt-NOBODY, then-is_empty}
 
 pub returns-in-Err : goal.returns-in-Err
 unfolding queue_at
-returns-in-Err c = refused_by _ _ _ c.refused.ensures c.from.ensures (cc c.in-Err.ensures)
+returns-in-Err c = refused_for _ _ _ c.refused.ensures c.from.ensures (cc c.in-Err.ensures)
 
 pub returns : goal.returns
 unfolding carried_out applied gathered status_of answer_of answered with_scheduler edited endsb receive_effect past_effect ends_each with_queue held_at queue_at

@@ -12,13 +12,13 @@ use Rattle.kernel.specs.Loops.{answered}
 use Rattle.kernel.specs.Queues.{send_effect}
 use Rattle.kernel.specs.Tables.{queue_at, with_queue, with_scheduler}
 use Rattle.kernel.proofs.Laws.Answers.{is_carried}
-use Rattle.kernel.proofs.Laws.Arms.{refused_by}
+use Rattle.kernel.proofs.Laws.Arms.{refused_for}
 use Rattle.kernel.proofs.Kernel.queue_send.Goals as goal
 use Rattle.kernel.proofs.Kernel.queue_send.Goals.{else-has_room, then-has_room+else-first-lt-NOBODY, then-has_room+then-first-lt-NOBODY}
 
 pub returns-in-Err : goal.returns-in-Err
 unfolding queue_at
-returns-in-Err c = refused_by _ _ _ c.refused.ensures c.from.ensures (cc c.in-Err.ensures)
+returns-in-Err c = refused_for _ _ _ c.refused.ensures c.from.ensures (cc c.in-Err.ensures)
 
 pub returns : goal.returns
 unfolding carried_out applied gathered status_of answer_of answered with_scheduler edited endsb send_effect give_effect serve_effect store_effect with_queue queue_at

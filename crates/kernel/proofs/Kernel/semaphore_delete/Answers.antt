@@ -9,13 +9,13 @@ use Rattle.kernel.specs.Effects.{close_effect}
 use Rattle.kernel.specs.Kinds.{Kind, place_of}
 use Rattle.kernel.specs.Tables.{semaphore_at, with_semaphore}
 use Rattle.kernel.proofs.Laws.Answers.{is_carried}
-use Rattle.kernel.proofs.Laws.Arms.{refused_by}
+use Rattle.kernel.proofs.Laws.Arms.{refused_for}
 use Rattle.kernel.proofs.Laws.Waits.{closed}
 use Rattle.kernel.proofs.Kernel.semaphore_delete.Goals as goal
 
 pub returns-in-Err : goal.returns-in-Err
 unfolding semaphore_at
-returns-in-Err c = refused_by _ _ _ c.refused.ensures c.from.ensures (cc c.in-Err.ensures)
+returns-in-Err c = refused_for _ _ _ c.refused.ensures c.from.ensures (cc c.in-Err.ensures)
 
 pub returns : goal.returns
 unfolding close_effect status_by with_semaphore semaphore_at

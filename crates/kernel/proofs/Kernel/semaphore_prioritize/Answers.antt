@@ -6,12 +6,12 @@ use Rattle.kernel.specs.Effects.{rank_effect}
 use Rattle.kernel.specs.Loops.{answered}
 use Rattle.kernel.specs.Tables.{semaphore_at, with_scheduler}
 use Rattle.kernel.proofs.Laws.Answers.{is_carried}
-use Rattle.kernel.proofs.Laws.Arms.{refused_by}
+use Rattle.kernel.proofs.Laws.Arms.{refused_for}
 use Rattle.kernel.proofs.Kernel.semaphore_prioritize.Goals as goal
 
 pub returns-in-Err : goal.returns-in-Err
 unfolding semaphore_at
-returns-in-Err c = refused_by _ _ _ c.refused.ensures c.from.ensures (cc c.in-Err.ensures)
+returns-in-Err c = refused_for _ _ _ c.refused.ensures c.from.ensures (cc c.in-Err.ensures)
 
 pub returns : goal.returns
 unfolding carried_out applied gathered status_of answer_of answered with_scheduler edited rank_effect semaphore_at

@@ -4,12 +4,12 @@ use Rattle.calls.specs.Chains.{put_refusal}
 use Rattle.kernel.specs.Semaphores.{put_effect}
 use Rattle.kernel.specs.Tables.{semaphore_at}
 use Rattle.kernel.proofs.Laws.Answers.{is_carried, put_low}
-use Rattle.kernel.proofs.Laws.Arms.{refused_by}
+use Rattle.kernel.proofs.Laws.Arms.{refused_for}
 use Rattle.kernel.proofs.Kernel.semaphore_put.Goals as goal
 
 pub returns-in-Err : goal.returns-in-Err
 unfolding semaphore_at
-returns-in-Err c = refused_by _ _ _ c.refused.ensures c.from.ensures (cc c.in-Err.ensures)
+returns-in-Err c = refused_for _ _ _ c.refused.ensures c.from.ensures (cc c.in-Err.ensures)
 
 pub overflow_add-x : goal.overflow_add-x
 overflow_add-x c =

@@ -11,11 +11,11 @@ use Rattle.kernel.specs.Loops.{answered}
 use Rattle.kernel.specs.Tables.{thread_of, with_held, with_scheduler}
 use Rattle.kernel.specs.Threads.{create_effect}
 use Rattle.kernel.proofs.Laws.Answers.{first_none, is_carried, second_none, unless_none}
-use Rattle.kernel.proofs.Laws.Arms.{refused_by}
+use Rattle.kernel.proofs.Laws.Arms.{refused_for}
 use Rattle.kernel.proofs.Kernel.thread_create.Goals as goal
 
 pub returns-in-Err : goal.returns-in-Err
-returns-in-Err c = refused_by _ _ _ c.refused.ensures c.from.ensures (cc c.in-Err.ensures)
+returns-in-Err c = refused_for _ _ _ c.refused.ensures c.from.ensures (cc c.in-Err.ensures)
 
 -- nothing refuses: the priority and the threshold are in range
 in_range : (t : ℕ) (th : Thread) (p h start caller : ℕ) → create_refusal t th p h start caller ≡ 0 → (p < 32) × (h ≤ p)

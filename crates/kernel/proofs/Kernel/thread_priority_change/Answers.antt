@@ -13,11 +13,11 @@ use Rattle.kernel.specs.Loops.{answered}
 use Rattle.kernel.specs.Tables.{held_at, thread_of, with_held, with_scheduler}
 use Rattle.kernel.specs.Threads.{priority_effect}
 use Rattle.kernel.proofs.Laws.Answers.{first_none, is_carried, second_none, unless_none}
-use Rattle.kernel.proofs.Laws.Arms.{refused_by}
+use Rattle.kernel.proofs.Laws.Arms.{refused_for}
 use Rattle.kernel.proofs.Kernel.thread_priority_change.Goals as goal
 
 pub returns-in-Err : goal.returns-in-Err
-returns-in-Err c = refused_by _ _ _ c.refused.ensures c.from.ensures (cc c.in-Err.ensures)
+returns-in-Err c = refused_for _ _ _ c.refused.ensures c.from.ensures (cc c.in-Err.ensures)
 
 pub overflow_cast-priority : goal.overflow_cast-priority
 unfolding priority_refusal

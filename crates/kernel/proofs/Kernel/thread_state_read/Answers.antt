@@ -6,11 +6,11 @@ use Rattle.kernel.specs.Loops.{answered}
 use Rattle.kernel.specs.Tables.{held_at, thread_of, with_scheduler}
 use Rattle.kernel.specs.Threads.{state_effect}
 use Rattle.kernel.proofs.Laws.Answers.{is_carried}
-use Rattle.kernel.proofs.Laws.Arms.{refused_by}
+use Rattle.kernel.proofs.Laws.Arms.{refused_for}
 use Rattle.kernel.proofs.Kernel.thread_state_read.Goals as goal
 
 pub returns-in-Err : goal.returns-in-Err
-returns-in-Err c = refused_by _ _ _ c.refused.ensures c.from.ensures (cc c.in-Err.ensures)
+returns-in-Err c = refused_for _ _ _ c.refused.ensures c.from.ensures (cc c.in-Err.ensures)
 
 pub returns : goal.returns
 unfolding carried_out applied gathered status_of answer_of answered with_scheduler state_effect held_at

@@ -25,7 +25,7 @@ use Rattle.kernel.proofs.Laws.Ticks.{ticks_below, one_pass, tick_same, below_oth
 use Rattle.kernel.proofs.Laws.Fits.{ticks_left}
 use Rattle.kernel.proofs.Laws.Edits.{applied-append, gathered-append}
 use Rattle.kernel.proofs.Laws.Answers.{is_carried}
-use Rattle.kernel.proofs.Laws.Arms.{refused_by, carried_as}
+use Rattle.kernel.proofs.Laws.Arms.{refused_for, carried_as}
 use Rattle.kernel.proofs.Laws.Reads.{read_inside}
 use Rattle.kernel.proofs.Kernel.tick.Goals as goal
 use Rattle.kernel.proofs.Kernel.tick.Goals.{then-is_last_tick, else-is_last_tick+then-is_timed, else-is_last_tick+else-is_timed}
@@ -55,7 +55,7 @@ counted start t ended so-far x =
 
 pub returns-in-Err : goal.returns-in-Err
 unfolding ticks_below applied gathered with_scheduler
-returns-in-Err c = refused_by _ _ _ c.refused.ensures c.from.ensures (cc c.in-Err.ensures)
+returns-in-Err c = refused_for _ _ _ c.refused.ensures c.from.ensures (cc c.in-Err.ensures)
 
 pub loop-t-init : goal.loop-t-init
 unfolding ticks_below applied gathered with_scheduler
