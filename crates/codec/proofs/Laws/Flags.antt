@@ -27,16 +27,19 @@ tested_within first size n k i h l = let m = mul-le-mul_left size (let z : i < n
 pub ruleset tests = (tested_none, tested_more, tested_within)
 
 -- ---- two tests of each record
-both : (a b c d : Bool) → ((a && b) && (c && d)) ≡ ((a && c) && (b && d))
-both true true c d = refl
-both true false true d = refl
-both true false false d = refl
-both false b c d = refl
+pub both : (x y v w : Bool) → x ≡ v → y ≡ w → x && y ≡ v && w
+both x y v w e f = λ j. e j && f j
+
+and_pairs : (a b c d : Bool) → ((a && b) && (c && d)) ≡ ((a && c) && (b && d))
+and_pairs true true c d = refl
+and_pairs true false true d = refl
+and_pairs true false false d = refl
+and_pairs false b c d = refl
 
 pub all-both : (n : ℕ) (f g : ℕ → Bool) → all_below n (λ i. f i && g i) ≡ (all_below n f && all_below n g)
 unfolding all_below
 all-both zero f g = refl
-all-both (suc n) f g = (λ j. all-both n f g j && (f n && g n)) ∙ both (all_below n f) (all_below n g) (f n) (g n)
+all-both (suc n) f g = (λ j. all-both n f g j && (f n && g n)) ∙ and_pairs (all_below n f) (all_below n g) (f n) (g n)
 
 and_assoc : (a b c : Bool) → (a && (b && c)) ≡ ((a && b) && c)
 and_assoc true b c = refl

@@ -7,10 +7,14 @@ use native.Mathlib.Omega.{arith}
 use native.Mathlib.Numerals.{add-one}
 use native.Mathlib.Nat.{mul-suc}
 use lib.ListN.{length, take, drop, get_or, set, length-append, length-set, length-drop, take-append-drop}
-use lib.Seq.{take_all, take_at, take-suc, take-suc-set, length-take-le, length_front}
+use lib.Seq.{take_all, take_at, take-suc, take-suc-set, drop-length, length-take-le, length_front, sets, sets-eq}
 use Rattle.std.specs.Int.{from_bool}
 use Rattle.codec.specs.Blocks.{flag_byte, all_bytes}
 use Rattle.codec.proofs.Laws.Reading.{record_end, range_size}
+
+-- a block whose bytes are all stored, one by one
+pub stored : (b vs : List ℕ) → length b ≡ length vs → sets b 0 vs ≡ vs
+stored b vs h = sets-eq vs b 0 (omega arith) ∙ ap (λ (r : List ℕ). vs ++ r) (ap (λ (k : ℕ). drop k b) (let e : 0 + length vs ≡ length b = omega arith in e) ∙ drop-length b) ∙ append-nil vs
 
 -- ---- a part ys of k bytes, written from byte n on
 module _ (b ys : List ℕ) (n k : ℕ) where
@@ -51,6 +55,17 @@ module _ (b total : List ℕ) where
       ∙ ap (λ (r : List ℕ). r ++ rest) (take-suc-set b n x l)
       ∙ append_assoc (take n b) (x ∷ []) rest
       ∙ e
+
+-- equal parts and bytes, one behind the other
+pub same_join : (xs vs ys ws : List ℕ) → xs ≡ vs → ys ≡ ws → xs ++ ys ≡ vs ++ ws
+same_join xs vs ys ws e f = λ j. e j ++ f j
+
+pub same_next : (x v : ℕ) (ys ws : List ℕ) → x ≡ v → ys ≡ ws → x ∷ ys ≡ v ∷ ws
+same_next x v ys ws e f = λ j. e j ∷ f j
+
+-- a block of a known length has room for what is written to it
+pub room : (size : ℕ) (b : List ℕ) (m : ℕ) → length b ≡ size → m ≤ size → m ≤ length b
+room size b m h k = omega arith
 
 -- a flag as the library makes a byte of it
 from_flag : (v : Bool) → from_bool v ≡ flag_byte v
