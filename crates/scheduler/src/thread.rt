@@ -1,5 +1,5 @@
 // What scheduling needs of a thread, and the place where a thread stands.
-ghost use Rattle.std.specs.Prelude.{◌≡◌, false, ◌&&◌, leb};
+ghost use Rattle.std.specs.Prelude.{◌≡◌, ◌&&◌, leb};
 ghost use Rattle.lines.specs.Logic.{implies};
 ghost use Rattle.scheduler.specs.Threads.{asleep, on_queue, on_semaphore, on_flags, on_block, uncreated, readyb, waitsb, pausedb, restsb, standsb, number_of, placedb, ready_at, waiters_at, in_state, at_rest, awake, with_suspension, created};
 ghost use Rattle.scheduler.specs.Sound.{limitsb, zerob, fitb, countedb};
@@ -228,12 +228,15 @@ impl Thread {
         self.is_standing() & (self.state == p.state) & (self.number() == p.number)
     }
 
-    // Whether the record of a thread that is not created is zero.
+    // Whether the record of a thread that is not created is zero. The field `created` is not looked at.
     fn is_zero(self) -> bool
-        requires { self.created ≡ false }
         ensures { result ≡ zerob self }
     {
-        self == Thread::uncreated()
+        let th = Thread {
+            created: false,
+            ..self
+        };
+        th == Thread::uncreated()
     }
 
     // Whether state, priority and threshold are within bounds.

@@ -10,4 +10,4 @@ not_set false = refl
 
 pub returns : goal.returns
 unfolding zerob uncreated
-returns c = rw (c.eq.ensures, c.uncreated.ensures, c.requires) (simp (not_set, and_assoc))
+returns c = rw (c.eq.ensures, c.uncreated.ensures) (simp (not_set, and_assoc))
