@@ -1,12 +1,13 @@
 // The choice of the next thread.
-ghost use Rattle.std.specs.Prelude.{◌≡◌, Bool, ◌&&◌, ◌||◌, not, ◌≤◌, ltb};
+ghost use Rattle.std.specs.Prelude.{◌≡◌, refl, Bool, false, ◌&&◌, ◌||◌, not, ◌≤◌, ltb};
 ghost use Rattle.numbers.specs.Numbers.{nobody};
 ghost use Rattle.scheduler.specs.Choice.{best_among, best_ready, rescheduled, relinquished};
 ghost use Rattle.scheduler.specs.declared.thread.Thread.{Thread};
-ghost use Rattle.scheduler.specs.Loops.{considered_of, Computes};
+ghost use Rattle.scheduler.specs.Threads.{uncreated, readyb, waitsb, standsb, placedb};
+ghost use Rattle.scheduler.specs.Loops.{considered_of};
 
 use super::Scheduler;
-use super::thread::Thread;
+use super::thread::{Place, Thread};
 use lines::slots::record_in;
 use lines::{Best, LARGEST_KEY, better};
 use numbers::{NOBODY, THREADS, ThreadId};
@@ -33,11 +34,45 @@ fn overtakes(best: Best, t: ThreadId, threshold: u8) -> bool
     (best.id.0 < NOBODY) & (!(t.0 < NOBODY) | (best.key < threshold))
 }
 
+// A test of a thread's record, by which the best is looked for. It holds of no record past the table.
+pub(crate) trait Test: Copy {
+    ghost test: { Self → Thread → Bool };
+
+    fn holds(self, th: Thread) -> bool
+        ensures { result ≡ test self th };
+
+    ghost none_past: { (x : Self) → test x uncreated ≡ false };
+}
+
+// The test of the ready threads.
+#[derive(Clone, Copy)]
+pub(crate) struct Ready;
+
+impl Test for Ready {
+    ghost test = { λ r. readyb };
+
+    ghost none_past = { λ r. unfold readyb in unfold uncreated in refl };
+
+    fn holds(self, th: Thread) -> bool {
+        th.is_ready()
+    }
+}
+
+// The test of the threads at a place.
+impl Test for Place {
+    ghost test = { placedb };
+
+    ghost none_past = { λ p. unfold placedb in unfold standsb in unfold readyb in unfold waitsb in unfold uncreated in refl };
+
+    fn holds(self, th: Thread) -> bool {
+        th.is_at(self)
+    }
+}
+
 impl Scheduler {
-    // The first of the best priority among those whose records are wanted.
-    pub(crate) fn best<F: Fn(Thread) -> bool>(self, wanted: F) -> ThreadId
-        requires { F.IsAlwaysCallable wanted }
-        ensures { (f : Thread → Bool) → Computes (F.post wanted) self f → result.0 ≡ best_among f self }
+    // The first of the best priority among those for whose records a test holds.
+    pub(crate) fn best<T: Test>(self, wanted: T) -> ThreadId
+        ensures { result.0 ≡ best_among (T.test wanted) self }
     {
         let o = self.order;
         let mut b = NOBODY_YET;
@@ -47,7 +82,7 @@ impl Scheduler {
                     id: ThreadId(*x),
                     key: th.priority,
                 };
-                b = considered(wanted(*th), x, b);
+                b = considered(wanted.holds(*th), x, b);
             }
         }
         b.id
@@ -57,7 +92,7 @@ impl Scheduler {
     pub fn best_ready(self) -> ThreadId
         ensures { result.0 ≡ best_ready self }
     {
-        self.best(|th| th.is_ready())
+        self.best(Ready)
     }
 
     // The choice after a call, made where the tables lie: one pass finds the best ready thread and the best marked one. A runner that stays,

@@ -60,7 +60,7 @@ impl Scheduler {
     pub fn prioritised(mut self, p: Place) -> Scheduler
         ensures { result ≡ prioritised_at self p }
     {
-        let b = self.best(|th| th.is_at(p));
+        let b = self.best(p);
         self.order = self.order.fronted(b);
         self
     }
