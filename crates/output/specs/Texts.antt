@@ -3,6 +3,7 @@
 use Rattle.std.specs.Prelude.{◌≡◌, cond, List, [], ◌∷◌, ◌++◌, ℕ, zero, suc, ◌+◌, ◌/◌, ◌%◌, ◌≤◌, min, length, take, drop, set, ltb}
 use Prim.Native.Char.{code}
 use Prim.Native.String.{String, [] as noText, ◌∷◌ as ◌then◌}
+use Rattle.output.specs.declared.Writer.{Writer}
 
 -- where the next byte goes: at the position, or at the front, once a buffer that is full was written out
 unfoldable pub place_in : ℕ → ℕ → ℕ
@@ -28,14 +29,10 @@ pub record Put (before : List ℕ) (at : ℕ) (text after : List ℕ) (r : ℕ) 
   pub bytes : after ≡ text_in before at text
   pub within : r ≤ length after
 
--- a buffer: its bytes, and the position up to which they are text that is not written out yet
-pub record Buffer : Type 0 where
-  pub bytes : List ℕ
-  pub at : ℕ
-
--- a text went into a buffer, by its bytes and position before and after
-abbrev pub Puts : Buffer → List ℕ → Buffer → Type 0
-Puts before text after = Put before.bytes before.at text after.bytes after.at
+-- a text went into a writer's buffer, which stays the one that was lent
+pub record Puts {P : Type 0} (before : Writer P) (text : List ℕ) (after : Writer P) : Type 0 where
+  pub put : Put before.buf.now before.at text after.buf.now after.at
+  pub lent : after.buf.ghost_name ≡ before.buf.ghost_name
 
 -- A text that goes in behind another is one text with it. A text that finds room stands behind the text before it, and every other byte is
 -- as before. Proved as `texts` of proofs/Laws/Texts.antt.

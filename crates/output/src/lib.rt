@@ -3,9 +3,7 @@
 #![tactic(auto)]
 
 ghost use Rattle.std.specs.Prelude.{◌≡◌, [], ◌∷◌};
-ghost use Rattle.output.specs.Texts.{Buffer, Puts, decimal_of};
-
-use std::marker::Model;
+ghost use Rattle.output.specs.Texts.{Puts, decimal_of};
 
 // The bytes of text that a program gathers for a write.
 pub const BUFFER_BYTES: usize = 65536;
@@ -13,41 +11,46 @@ pub const BUFFER_BYTES: usize = 65536;
 // Text that is gathered in a buffer that is lent, of any length, and written to `out`, the standard output of a program, each time that the
 // buffer is full. `flush` at the end writes the rest. A write that fails is not reported. The contracts relate the buffer's bytes and
 // position before and after: the position is that up to which the bytes are text that is not written out yet. A position past the buffer
-// counts as a full buffer.
+// counts as a full buffer. They also say that the buffer stays the one that was lent, so that its lender knows its bytes afterwards. For that
+// the fields are public, and there is no model in their place.
 // No invariant bounds the position, since `Put` and the wrong version `position_past_the_buffer` speak of one past the buffer.
-#[derive(Drop)]
 pub struct Writer<'a, P> {
-    out: P,
-    buf: &'a mut [u8],
-    at: usize,
+    pub out: P,
+    pub buf: &'a mut [u8],
+    pub at: usize,
 }
 
-impl<'a, P> Model for Writer<'a, P> {
-    ghost Value = { Buffer };
-
-    ghost view = { λ w. record { bytes = w.buf.now; at = w.at } };
+// By hand, since a derived drop does not say that it leaves the buffer as it is.
+impl<'a, P: Drop> Drop for Writer<'a, P> {
+    fn drop(self)
+        ensures { self.exit.1.0.now ≡ self.entry.buf.now }
+    {
+        let Writer { out: _, buf: _, at: _ } = self;
+    }
 }
 
 impl<'a, P: Print> Writer<'a, P> {
     // A buffer that holds text up to a position.
     pub fn with_text(out: P, buf: &'a mut [u8], at: usize) -> Self
-        ensures bytes { result.bytes ≡ buf.old }
+        ensures bytes { result.buf.now ≡ buf.old }
         ensures position { result.at ≡ at }
+        ensures lent { result.buf.ghost_name ≡ buf.entry.ghost_name }
     {
         Writer { out, buf, at }
     }
 
     // A buffer that holds no text.
     pub fn new(out: P, buf: &'a mut [u8]) -> Self
-        ensures bytes { result.bytes ≡ buf.old }
+        ensures bytes { result.buf.now ≡ buf.old }
         ensures position { result.at ≡ 0 }
+        ensures lent { result.buf.ghost_name ≡ buf.entry.ghost_name }
     {
         Writer::with_text(out, buf, 0)
     }
 
     // The buffer's bytes, and the position up to which they are text that is not written out yet.
     pub fn parts(&self) -> (&[u8], usize)
-        ensures bytes { result.0.now ≡ self.now.bytes }
+        ensures bytes { result.0.now ≡ self.now.buf.now }
         ensures position { result.1 ≡ self.now.at }
     {
         (self.buf, self.at)
@@ -55,7 +58,9 @@ impl<'a, P: Print> Writer<'a, P> {
 
     // Writes the text that is in the buffer, which then holds none.
     pub fn flush(&mut self)
-        ensures { (self.new.at ≡ 0) × (self.new.bytes ≡ self.old.bytes) }
+        ensures bytes { self.new.buf.now ≡ self.old.buf.now }
+        ensures position { self.new.at ≡ 0 }
+        ensures lent { self.new.buf.ghost_name ≡ self.old.buf.ghost_name }
     {
         write_out(&self.out, self.buf, self.at);
         self.at = 0;
@@ -109,7 +114,8 @@ impl<'a, P: Print> Writer<'a, P> {
 impl<'a, P: Drop> Writer<'a, P> {
     // The buffer as it is, for whoever lent it.
     pub fn into_buffer(self) -> &'a mut [u8]
-        ensures { result.now ≡ self.entry.bytes }
+        ensures bytes { result.now ≡ self.entry.buf.now }
+        ensures lent { result.ghost_name ≡ self.entry.buf.ghost_name }
     {
         let Writer { out: _, buf, at: _ } = self;
         buf

@@ -8,7 +8,8 @@ use lib.ListN.{length, take, drop, set, length-set}
 use lib.Seq.{sets, sets-eq, set_out}
 use lib.Dec.{ltb}
 use borrow.Author.Tests.{lt-ltb, le-ltb, ltb-true, ltb-false}
-use Rattle.output.specs.Texts.{place_in, byte_end, text_end, text_in, Put, TextClaims}
+use Rattle.output.specs.declared.Writer.{Writer}
+use Rattle.output.specs.Texts.{place_in, byte_end, text_end, text_in, Put, Puts, TextClaims}
 
 -- ---- where a byte goes
 pub place_room : (size at : ℕ) → at < size → place_in size at ≡ at
@@ -69,10 +70,19 @@ put-append {a} {b} {c} {at} {r} {s} {xs} {ys} p q =
       within = q.within;
     }
 
+-- the same of a writer's buffer
+pub puts-append : {P : Type 0} {u v w : Writer P} {xs ys : List ℕ} → Puts u xs v → Puts v ys w → Puts u (xs ++ ys) w
+puts-append p q = record { put = put-append p.put q.put; lent = q.lent ∙ p.lent }
+
 -- ---- one text
 pub put_none : (buf : List ℕ) (at : ℕ) → Put buf at [] buf (min at (length buf))
 unfolding text_end text_in
 put_none buf at = record { end = refl; bytes = refl; within = omega arith }
+
+-- a position behind a text is one behind which nothing more has gone in yet
+pub put-start : {a b : List ℕ} {at r : ℕ} {xs : List ℕ} → Put a at xs b r → Put b r [] b r
+unfolding text_end text_in
+put-start {a} {b} {at} {r} p = let w = p.within in record { end = omega (arith, w); bytes = refl; within = w }
 
 -- a byte that finds room, one that finds the buffer full, and one that finds a buffer of no size
 pub byte_room : (buf : List ℕ) (at b : ℕ) → at < length buf → Put buf at (b ∷ []) (set buf at b) (at + 1)

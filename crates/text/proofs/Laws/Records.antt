@@ -14,7 +14,8 @@ use Rattle.kernel.specs.declared.Answer.{Answer}
 use Rattle.kernel.specs.General.{call}
 use Rattle.kernel.specs.Runs.{after_record, after_records}
 use Rattle.kernel.proofs.Laws.Runs.{after_more}
-use Rattle.output.specs.Texts.{Put}
+use Rattle.output.specs.declared.Writer.{Writer}
+use Rattle.output.specs.Texts.{Put, Puts}
 use Rattle.output.proofs.Laws.Texts.{put-append}
 use Rattle.text.specs.Records.{records_text}
 
@@ -57,3 +58,8 @@ module _ (k : Kernel) (ms bytes : List ℕ) {i : ℕ} {tables : Kernel} {r : Req
   put_record f {a} {b} {c} {at} {p} {q} u v =
       let w = subst (λ (t : Request). Put b p (f i t x) c q) here v in
       rw (records_more f k ms bytes i h) (put-append u (subst (λ (y : Answer). Put b p (f i (record_at bytes i) y) c q) same w))
+
+  -- the same, of a writer's buffer
+  pub puts_record : (f : ℕ → Request → Answer → List ℕ) {P : Type 0} {u v w : Writer P} → Puts u (records_text f 0 k ms (take i (records_of bytes))) v
+      → Puts v (f i r x) w → Puts u (records_text f 0 k ms (take (i + 1) (records_of bytes))) w
+  puts_record f p q = record { put = put_record f p.put q.put; lent = q.lent ∙ p.lent }

@@ -2,7 +2,7 @@
 use mathlib.Core.Path.{◌≡◌, refl, sym, ap, subst, ◌∙◌}
 use mathlib.Core.List.{List, [], ◌∷◌, ◌++◌, append-nil, append_assoc}
 use mathlib.Core.Bool.{Bool, true, false}
-use Prim.Native.Nat.{ℕ, suc, ◌+◌, ◌<◌, min}
+use Prim.Native.Nat.{ℕ, zero, suc, ◌+◌, ◌<◌, min}
 use native.Mathlib.Omega.{arith}
 use native.Mathlib.Numerals.{add-one}
 use lib.ListN.{length, take, get_or}
@@ -13,11 +13,18 @@ use Rattle.std.specs.Prelude.{if◌then◌else◌}
 use Rattle.std.specs.Int.{from_bool}
 use Rattle.lines.specs.Logic.{one_if}
 use Rattle.lines.proofs.Laws.Logic.{by_test}
-use Rattle.output.specs.Texts.{Put}
+use Rattle.output.specs.declared.Writer.{Writer}
+use Rattle.output.specs.Texts.{Put, Puts}
 use Rattle.output.proofs.Laws.Texts.{put-append}
 use Rattle.text.specs.Texts.{each_text}
 
 -- ---- parts of lists
+-- as many as were taken
+pub take_taken : {A : Type 0} (n : ℕ) (xs : List A) → take (length (take n xs)) xs ≡ take n xs
+take_taken zero xs = refl
+take_taken (suc n) [] = refl
+take_taken (suc n) (x ∷ xs) = ap (λ (l : List _). x ∷ l) (take_taken n xs)
+
 -- as many as the smaller of a number and the length
 pub take_least : {A : Type 0} (n m : ℕ) (xs : List A) → length xs ≡ m → take (min n m) xs ≡ take n xs
 take_least n m xs e =
@@ -51,9 +58,22 @@ pub put_item : {A : Type 0} (f : ℕ → A → List ℕ) (xs : List A) {x : A} {
     → Put a at (each_text f 0 (take i xs)) b r → Put b r (f i x) c s → Put a at (each_text f 0 (take (i + 1) xs)) c s
 put_item f xs {x} {a} {b} {c} {at} {i} {r} {s} h e p q = put_more f xs x h p (subst (λ (y : _). Put b r (f i y) c s) e q)
 
+-- both, of a writer's buffer
+pub puts_more : {P A : Type 0} (f : ℕ → A → List ℕ) (xs : List A) (d : A) {u v w : Writer P} {i : ℕ} → i < length xs
+    → Puts u (each_text f 0 (take i xs)) v → Puts v (f i (get_or xs i d)) w → Puts u (each_text f 0 (take (i + 1) xs)) w
+puts_more f xs d h p q = record { put = put_more f xs d h p.put q.put; lent = q.lent ∙ p.lent }
+
+pub puts_item : {P A : Type 0} (f : ℕ → A → List ℕ) (xs : List A) {x : A} {u v w : Writer P} {i : ℕ} → i < length xs → x ≡ get_or xs i x
+    → Puts u (each_text f 0 (take i xs)) v → Puts v (f i x) w → Puts u (each_text f 0 (take (i + 1) xs)) w
+puts_item f xs h e p q = record { put = put_item f xs h e p.put q.put; lent = q.lent ∙ p.lent }
+
 -- ---- a text that is put only where a test holds
 pub put_if : {a c xs : List ℕ} {at r : ℕ} (b : Bool) → b ≡ true → Put a at xs c r → Put a at (if b then xs else []) c r
 put_if {a} {c} {xs} {at} {r} b e p = subst (λ (v : Bool). Put a at (if v then xs else []) c r) (sym e) p
+
+-- the same, of a writer's buffer
+pub puts_if : {P : Type 0} {u w : Writer P} {xs : List ℕ} (b : Bool) → b ≡ true → Puts u xs w → Puts u (if b then xs else []) w
+puts_if b e p = record { put = put_if b e p.put; lent = p.lent }
 
 -- ---- a bit
 pub bit_is : (b : Bool) → from_bool b ≡ one_if b

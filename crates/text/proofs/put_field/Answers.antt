@@ -1,7 +1,7 @@
-use Rattle.output.proofs.Laws.Texts.{put-append}
+use Rattle.output.proofs.Laws.Texts.{puts-append}
 use Rattle.text.specs.Texts.{field_text}
 use Rattle.text.proofs.put_field.Goals as goal
 
 pub returns : goal.returns
 unfolding field_text
-returns g c = put-append c.put_text.ensures (rw c.from.ensures at c.put_decimal.ensures)
+returns g c = puts-append c.put_text.ensures (rw c.from.ensures at c.put_decimal.ensures)

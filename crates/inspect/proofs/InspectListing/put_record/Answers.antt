@@ -1,7 +1,7 @@
-use Rattle.output.proofs.Laws.Texts.{put-append}
+use Rattle.output.proofs.Laws.Texts.{puts-append}
 use Rattle.inspect.specs.Inspect.{record_text}
 use Rattle.inspect.proofs.InspectListing.put_record.Goals as goal
 
 pub returns : goal.returns
 unfolding record_text
-returns g c = put-append (put-append c.put_call.ensures c.put_result.ensures) c.put_tables.ensures
+returns g c = puts-append (puts-append c.put_call.ensures c.put_result.ensures) c.put_tables.ensures

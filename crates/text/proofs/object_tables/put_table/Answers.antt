@@ -2,7 +2,7 @@ use Rattle.std.proofs.Common.{ℕ}
 use lib.Seq.{take_all}
 use Rattle.scheduler.specs.Orders.{line_at}
 use Rattle.text.specs.Texts.{each_text}
-use Rattle.text.proofs.Laws.Texts.{put_item}
+use Rattle.text.proofs.Laws.Texts.{puts_item}
 use Rattle.text.proofs.object_tables.put_table.Goals as goal
 
 pub loop-i-init : goal.loop-i-init
@@ -12,7 +12,7 @@ loop-i-init g c = c.put_nothing.ensures
 pub loop-i-preserved : goal.loop-i-preserved
 loop-i-preserved g c =
     let s = c.args.s.now in
-    put_item (λ (n : ℕ) (x : _). g.T.Object.object_text n x (line_at s (g.T.Object.waiters n))) c.args.all.now c.loop-i-test.true c.index-all-i.is
+    puts_item (λ (n : ℕ) (x : _). g.T.Object.object_text n x (line_at s (g.T.Object.waiters n))) c.args.all.now c.loop-i-test.true c.index-all-i.is
     c.loop-i.invariant (rw (c.line_at-l.ensures.1, c.place.ensures) at c.put.ensures)
 
 pub returns : goal.returns

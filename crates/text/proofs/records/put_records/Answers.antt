@@ -4,7 +4,7 @@ use Rattle.tape.specs.Tapes.{count_of, records_of}
 use Rattle.tape.proofs.Laws.Tapes.{length_records}
 use Rattle.kernel.specs.Runs.{after_records}
 use Rattle.text.specs.Records.{records_text}
-use Rattle.text.proofs.Laws.Records.{next_tables, put_record}
+use Rattle.text.proofs.Laws.Records.{next_tables, puts_record}
 use Rattle.text.proofs.records.put_records.Goals as goal
 
 pub loop-i-init : goal.loop-i-init
@@ -20,7 +20,7 @@ loop-i-preserved g c =
     let n : l.i < count_of bytes = omega (arith, c.count-i-end.ensures) in
     record {
       tables = next_tables k ms bytes n l.invariant.tables c.record_at-r.ensures c.call-a.ensures;
-      put = put_record k ms bytes n l.invariant.tables c.record_at-r.ensures c.call-a.ensures g.L.Listing.listed_text l.invariant.put c.put_record.ensures;
+      put = puts_record k ms bytes n l.invariant.tables c.record_at-r.ensures c.call-a.ensures g.L.Listing.listed_text l.invariant.put c.put_record.ensures;
     }
 
 pub returns : goal.returns

@@ -7,7 +7,7 @@ use Rattle.calls.specs.declared.held.Held.{Held}
 use Rattle.calls.specs.Held.{no_held}
 use Rattle.text.specs.Texts.{each_text}
 use Rattle.text.specs.Threads.{record_text, threads_text}
-use Rattle.text.proofs.Laws.Texts.{put_more}
+use Rattle.text.proofs.Laws.Texts.{puts_more}
 use Rattle.text.proofs.thread_table.put_threads.Goals as goal
 
 pub loop-t-init : goal.loop-t-init
@@ -21,7 +21,7 @@ loop-t-preserved g c =
     let w : length held ≡ 32 = search length_mapped in
     let h : c.loop-t.t < length c.args.threads.now = omega arith in
     let d : Held = record { status = 0; request = 0; words = []; sending = false; front = false; option = 0 } in
-    put_more (λ (m : ℕ) (th : Thread). record_text m th (get_or held m no_held)) c.args.threads.now _ h c.loop-t.invariant
+    puts_more (λ (m : ℕ) (th : Thread). record_text m th (get_or held m no_held)) c.args.threads.now _ h c.loop-t.invariant
     (rw (get_d_any held c.loop-t.t d no_held (omega arith)) at c.put_record.ensures)
 
 pub returns : goal.returns

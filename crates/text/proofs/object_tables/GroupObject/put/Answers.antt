@@ -1,6 +1,6 @@
-use Rattle.output.proofs.Laws.Texts.{put-append}
+use Rattle.output.proofs.Laws.Texts.{puts-append}
 use Rattle.text.specs.Objects.{group_text}
-use Rattle.text.proofs.Laws.Texts.{put_if}
+use Rattle.text.proofs.Laws.Texts.{puts_if}
 use Rattle.text.proofs.object_tables.GroupObject.put.Goals as goal
 
 pub returns-then-not-self : goal.returns-then-not-self
@@ -10,5 +10,5 @@ returns-then-not-self g c = rw c.if-not-self.true c.put_nothing.ensures
 pub returns : goal.returns
 unfolding group_text
 returns g c =
-    put_if c.args.self.now.created c.if-not-self.false
-    (put-append (put-append (rw c.from.ensures at c.put_field.ensures) c.put_field-2.ensures) c.put_line.ensures)
+    puts_if c.args.self.now.created c.if-not-self.false
+    (puts-append (puts-append (rw c.from.ensures at c.put_field.ensures) c.put_field-2.ensures) c.put_line.ensures)
