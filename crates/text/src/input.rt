@@ -8,7 +8,7 @@ use std::rt::{Env, Files};
 use std::{fs, str};
 
 // The most bytes that a program reads of its tape. A tape that is not refused has at most 65,168.
-const MOST_BYTES: usize = 65536;
+pub const MOST_BYTES: usize = 65536;
 
 // The most bytes of a path, and the system's error for a longer one.
 const MOST_PATH_BYTES: usize = 4096;
