@@ -11,14 +11,22 @@ use calls::call::Request;
 use kernel::{Answer, Kernel};
 use output::Writer;
 use tables::put_tables;
-use text::input::print_tape;
+use text::input::{Report, print_tape};
 use text::records::{Listing, put_records};
 use text::{put_field, put_numbers, put_refused, put_thread};
 
 mod tables;
 
-// The listing that this program prints.
+// The report and the listing that this program prints.
 struct Inspect;
+
+impl<P: Print> Report<P> for Inspect {
+    ghost report_text = { inspect_text };
+
+    fn put_report(w: &mut Writer<'_, P>, bytes: &[u8]) {
+        put_run(w, bytes);
+    }
+}
 
 impl<P: Print> Listing<P> for Inspect {
     ghost listed_text = { record_text };
@@ -75,7 +83,7 @@ fn put_calls<P: Print>(w: &mut Writer<'_, P>, bytes: &[u8], messages: &[u32])
     put_records::<Inspect, P>(w, bytes, messages);
 }
 
-// What is printed of a tape. It stands in `replay` and `inspect`, since one function of both would need a trait more for these lines.
+// What is printed of a tape. It stands in `replay` and `inspect`, since one function of both would need more of `Report` for these lines.
 fn put_run<P: Print>(w: &mut Writer<'_, P>, bytes: &[u8])
     ensures { Puts w.old (inspect_text bytes.now) w.new }
 {
@@ -88,6 +96,5 @@ fn put_run<P: Print>(w: &mut Writer<'_, P>, bytes: &[u8])
 }
 
 fn main(rt: HostRuntime) {
-    // A closure, since `put_run` itself would be taken at one lifetime only.
-    print_tape(&rt, |w, bytes| put_run(w, bytes));
+    print_tape::<Inspect, _>(&rt);
 }

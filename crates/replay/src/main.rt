@@ -10,12 +10,20 @@ ghost use Rattle.replay.specs.Replay.{answer_text, count_text, calls_text, repla
 use calls::call::Request;
 use kernel::Answer;
 use output::Writer;
-use text::input::print_tape;
+use text::input::{Report, print_tape};
 use text::records::{Listing, put_records};
 use text::{put_field, put_refused, put_thread};
 
-// The listing that this program prints.
+// The report and the listing that this program prints.
 struct Replay;
+
+impl<P: Print> Report<P> for Replay {
+    ghost report_text = { replay_text };
+
+    fn put_report(w: &mut Writer<'_, P>, bytes: &[u8]) {
+        put_run(w, bytes);
+    }
+}
 
 impl<P: Print> Listing<P> for Replay {
     ghost listed_text = { λ i r a. answer_text a };
@@ -52,7 +60,7 @@ fn put_calls<P: Print>(w: &mut Writer<'_, P>, bytes: &[u8], messages: &[u32])
     put_count(w, b"done ", n);
 }
 
-// What is printed of a tape. It stands in `replay` and `inspect`, since one function of both would need a trait more for these lines.
+// What is printed of a tape. It stands in `replay` and `inspect`, since one function of both would need more of `Report` for these lines.
 fn put_run<P: Print>(w: &mut Writer<'_, P>, bytes: &[u8])
     ensures { Puts w.old (replay_text bytes.now) w.new }
 {
@@ -65,6 +73,5 @@ fn put_run<P: Print>(w: &mut Writer<'_, P>, bytes: &[u8])
 }
 
 fn main(rt: HostRuntime) {
-    // A closure, since `put_run` itself would be taken at one lifetime only.
-    print_tape(&rt, |w, bytes| put_run(w, bytes));
+    print_tape::<Replay, _>(&rt);
 }

@@ -1,5 +1,6 @@
 // Where a program reads its tape from, and how it prints what it says of it.
-ghost use Rattle.std.specs.Prelude.{◌≤◌, length};
+ghost use Rattle.std.specs.Prelude.{◌≡◌, ◌≤◌, List, ℕ, length};
+ghost use Rattle.output.specs.Texts.{Put, Puts};
 
 use output::{BUFFER_BYTES, Writer};
 use std::env::FillError;
@@ -67,22 +68,36 @@ pub fn open<R: Files + Env + Input + Eprint + Alloc>(rt: &R) -> Option<Source<R:
     }
 }
 
-// Reads the tape that a program is given, and prints what `put` puts into a buffer of it. No clause speaks of what reaches the output, since
-// std's `Print` has none.
-pub fn print_tape<
-    R: Files + Env + Input + Print + Eprint + Alloc,
-    F: FnOnce(&mut Writer<'_, &R>, &[u8]),
->(rt: &R, put: F)
-    requires { F.IsAlwaysCallable put }
+// A program that prints something of a tape.
+pub trait Report<P> {
+    ghost report_text: { List ℕ → List ℕ };
+
+    fn put_report(w: &mut Writer<'_, P>, bytes: &[u8])
+        ensures { Puts w.old (report_text bytes.now) w.new };
+}
+
+// What a program prints of a tape, from the front of a buffer.
+fn reported<'a, L: Report<P>, P: Print>(out: P, buf: &'a mut [u8], bytes: &[u8]) -> Writer<'a, P>
+    ensures text { Put buf.old 0 (L.report_text bytes.now) result.buf.now result.at }
+    ensures lent { result.buf.ghost_name ≡ buf.entry.ghost_name }
 {
+    let mut w = Writer::new(out, buf);
+    L::put_report(&mut w, bytes);
+    w
+}
+
+// Reads the tape that a program is given, and prints what the program prints of it. No clause speaks of what reaches the output, since std's
+// `Print` has none.
+pub fn print_tape<'r, L: Report<&'r R>, R: Files + Env + Input + Print + Eprint + Alloc>(
+    rt: &'r R,
+) {
     let Some(mut source) = open(rt) else {
         return;
     };
     let mut bytes = [0u8; MOST_BYTES];
     let n = source.read_full(&mut bytes);
     let mut buf = [0u8; BUFFER_BYTES];
-    let mut w = Writer::new(rt, &mut buf);
-    put(&mut w, &bytes[..n]);
+    let mut w = reported::<L, &R>(rt, &mut buf, &bytes[..n]);
     w.flush();
 }
 
