@@ -25,7 +25,11 @@ impl<'a, P: Drop> Drop for Writer<'a, P> {
     fn drop(self)
         ensures { self.exit.1.0.now ≡ self.entry.buf.now }
     {
-        let Writer { out: _, buf: _, at: _ } = self;
+        let Writer {
+            out: _,
+            buf: _,
+            at: _,
+        } = self;
     }
 }
 
