@@ -3,7 +3,7 @@
 #![tactic(auto)]
 
 ghost use Rattle.std.specs.Prelude.{◌≡◌, [], ◌∷◌};
-ghost use Rattle.output.specs.Texts.{Puts, decimal_of};
+ghost use Rattle.output.specs.Texts.{Put, Puts, decimal_of};
 
 // The bytes of text that a program gathers for a write.
 pub const BUFFER_BYTES: usize = 65536;
@@ -66,52 +66,36 @@ impl<'a, P: Print> Writer<'a, P> {
         ensures position { self.new.at ≡ 0 }
         ensures lent { self.new.buf.ghost_name ≡ self.old.buf.ghost_name }
     {
-        write_out(&self.out, self.buf, self.at);
-        self.at = 0;
+        self.at = flush(&self.out, self.buf, self.at);
     }
 
     // Puts a byte into the buffer, which is written out first where it is full.
     pub fn put_byte(&mut self, b: u8)
         ensures { Puts self.old (b ∷ []) self.new }
     {
-        if self.at < self.buf.len() {
-            self.buf[self.at] = b;
-            self.at += 1;
-            return;
-        }
-        self.flush();
-        if 0 < self.buf.len() {
-            self.buf[0] = b;
-            self.at = 1;
-        } else {
-            let _ = self.out.write_all(&[b]);
-        }
+        self.at = put_byte(&self.out, self.buf, self.at, b);
     }
 
     // Puts nothing.
     pub fn put_nothing(&mut self)
         ensures { Puts self.old [] self.new }
     {
-        self.at = self.at.min(self.buf.len());
+        self.at = put_nothing(self.buf, self.at);
     }
 
     // Puts a text into the buffer, which is written out each time that it is full.
     pub fn put_text(&mut self, text: &[u8])
         ensures { Puts self.old text.now self.new }
     {
-        self.put_nothing();
-        for b in text {
-            self.put_byte(*b);
-        }
+        self.at = put_text(&self.out, self.buf, self.at, text);
     }
 
     // Puts a number in decimal into the buffer.
+    #[inline(always)]
     pub fn put_decimal(&mut self, n: u64)
         ensures { Puts self.old (decimal_of n) self.new }
     {
-        let mut digits = [0u8; 20];
-        let k = io::decimal(n, &mut digits);
-        self.put_text(&digits[..k]);
+        self.at = put_decimal(&self.out, self.buf, self.at, n);
     }
 }
 
@@ -126,11 +110,77 @@ impl<'a, P: Drop> Writer<'a, P> {
     }
 }
 
-// Writes the text up to a position, all of it where the position is past it. It takes the text by `&mut`, since a caller that lends by `&`
-// what lies behind its own `&mut` knows the bytes no longer.
-fn write_out<P: Print>(out: &P, text: &mut [u8], at: usize)
-    ensures { text.new ≡ text.old }
+// The same on a buffer and its position apart, which goes in and comes back. The methods above are these, so that a text goes in with its position
+// at hand, and not behind the Writer for each byte.
+
+// Writes the text up to a position, all of it where the position is past it, and gives the position of a buffer that holds no text.
+pub fn flush(out: &impl Print, buf: &mut [u8], at: usize) -> usize
+    ensures { (result ≡ 0) × (buf.new ≡ buf.old) }
 {
-    let n = at.min(text.len());
-    let _ = out.write_all(&text[..n]);
+    let n = at.min(buf.len());
+    let _ = out.write_all(&buf[..n]);
+    0
+}
+
+// Puts a byte into the buffer, which is written out first where it is full.
+pub fn put_byte(out: &impl Print, buf: &mut [u8], at: usize, b: u8) -> usize
+    ensures { Put buf.old at (b ∷ []) buf.new result }
+{
+    if at < buf.len() {
+        buf[at] = b;
+        return at + 1;
+    }
+    flush(out, buf, at);
+    if 0 < buf.len() {
+        buf[0] = b;
+        1
+    } else {
+        let _ = out.write_all(&[b]);
+        0
+    }
+}
+
+// Puts nothing. A position past the buffer counts as a full buffer, as everywhere.
+pub fn put_nothing(buf: &mut [u8], at: usize) -> usize
+    ensures { Put buf.old at [] buf.new result }
+{
+    at.min(buf.len())
+}
+
+// Puts a text into the buffer, which is written out each time that it is full.
+pub fn put_text(out: &impl Print, buf: &mut [u8], at: usize, text: &[u8]) -> usize
+    ensures { Put buf.old at text.now buf.new result }
+{
+    let at = put_nothing(buf, at);
+    if text.len() <= buf.len() - at {
+        let end = at + text.len();
+        buf[at..end].copy_from_slice(text);
+        return end;
+    }
+    let mut at = at;
+    for b in text {
+        at = put_byte(out, buf, at, *b);
+    }
+    at
+}
+
+// Puts a number in decimal into the buffer.
+#[inline(always)]
+pub fn put_decimal(out: &impl Print, buf: &mut [u8], at: usize, n: u64) -> usize
+    ensures { Put buf.old at (decimal_of n) buf.new result }
+{
+    if n < 10 {
+        put_byte(out, buf, at, b'0' + n as u8)
+    } else {
+        put_digits(out, buf, at, n)
+    }
+}
+
+// The same for a number of any length.
+fn put_digits(out: &impl Print, buf: &mut [u8], at: usize, n: u64) -> usize
+    ensures { Put buf.old at (decimal_of n) buf.new result }
+{
+    let mut digits = [0u8; 20];
+    let k = io::decimal(n, &mut digits);
+    put_text(out, buf, at, &digits[..k])
 }

@@ -49,3 +49,8 @@ few_digits k n h w = go (ltb 20 k) refl
 pub digits-all : (k n : ℕ) → n < 2 ^ 64 → IsDigitCount 10 1 n k → last_digits 10 k n ≡ decimal_of n
 unfolding decimal_of
 digits-all k n h w = digits_decimal k 20 n (few_digits k n h w) w
+
+-- a number below ten is one digit
+pub one_digit : (n : ℕ) → n < 10 → decimal_of n ≡ (48 + n) ∷ []
+unfolding decimal_of decimal_in
+one_digit n h = rw (lt-ltb n 10 h)

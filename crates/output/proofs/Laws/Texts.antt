@@ -1,11 +1,12 @@
 -- Laws of text in a buffer: a byte that finds room or not, texts one after the other, and a text that finds room.
 use mathlib.Core.Path.{◌≡◌, refl, sym, ap, ap₂, ◌∙◌}
-use mathlib.Core.List.{List, [], ◌∷◌, ◌++◌}
+use mathlib.Core.List.{List, [], ◌∷◌, ◌++◌, append_assoc}
 use mathlib.Core.Bool.{Bool, true, false}
 use Prim.Native.Nat.{ℕ, suc, ◌+◌, ◌≤◌, ◌<◌, min}
 use native.Mathlib.Omega.{arith}
 use lib.ListN.{length, take, drop, set, length-set}
-use lib.Seq.{sets, sets-eq, set_out}
+use lib.Seq.{sets, sets-eq, set_out, drop-drop}
+use borrow.Rule.Slice.PartMut.{put_mid}
 use lib.Dec.{ltb}
 use borrow.Author.Tests.{lt-ltb, le-ltb, ltb-true, ltb-false}
 use Rattle.output.specs.declared.Writer.{Writer}
@@ -123,6 +124,15 @@ in_sets buf at (b ∷ bs) h =
 
 pub in_room : (buf : List ℕ) (at : ℕ) (bs : List ℕ) → at + length bs ≤ length buf → text_in buf at bs ≡ take at buf ++ bs ++ drop (at + length bs) buf
 in_room buf at bs h = in_sets buf at bs h ∙ sets-eq bs buf at h
+
+-- the same of a buffer into which the text was copied whole
+pub put_room : {buf ys bs : List ℕ} (at k : ℕ) → ys ≡ bs → k ≡ length bs → at + length bs ≤ length buf
+    → Put buf at bs (put_mid at k buf ys) (at + length bs)
+put_room {buf} {ys} {bs} at k e q h =
+    let n = length_in buf at bs in
+    let s : text_in buf at bs ≡ take at buf ++ (bs ++ drop (at + length bs) buf) = in_room buf at bs h ∙ append_assoc (take at buf) bs (drop (at + length bs) buf) in
+    rw (e, q, drop-drop (length bs) at buf)
+    (record { end = sym (end_room (length buf) at bs h); bytes = sym s; within = rw (← s, n) h })
 
 pub texts : TextClaims
 texts = record { append = put-append; room_end = end_room; room_bytes = in_room }

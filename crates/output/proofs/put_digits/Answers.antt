@@ -1,6 +1,6 @@
 use Rattle.std.proofs.Common.{◌∙◌}
 use Rattle.output.proofs.Laws.Decimals.{digits-all}
-use Rattle.output.proofs.Writer.put_decimal.Goals as goal
+use Rattle.output.proofs.put_digits.Goals as goal
 
 pub returns : goal.returns
 returns g c =
