@@ -110,8 +110,8 @@ impl<'a, P: Drop> Writer<'a, P> {
     }
 }
 
-// The same on a buffer and its position apart, which goes in and comes back. The methods above are these, so that a text goes in with its position
-// at hand, and not behind the Writer for each byte.
+// The same on a buffer and its position apart, which goes in and comes back: here the clauses speak of the lender's own buffer. The methods above
+// are these.
 
 // Writes the text up to a position, all of it where the position is past it, and gives the position of a buffer that holds no text.
 pub fn flush(out: &impl Print, buf: &mut [u8], at: usize) -> usize
@@ -164,7 +164,7 @@ pub fn put_text(out: &impl Print, buf: &mut [u8], at: usize, text: &[u8]) -> usi
     at
 }
 
-// Puts a number in decimal into the buffer.
+// Puts a number in decimal into the buffer. It is to be inlined, as is the method above: most numbers that the programs print are one digit.
 #[inline(always)]
 pub fn put_decimal(out: &impl Print, buf: &mut [u8], at: usize, n: u64) -> usize
     ensures { Put buf.old at (decimal_of n) buf.new result }
