@@ -11,7 +11,7 @@ use calls::call::Request;
 use kernel::{Answer, Kernel};
 use output::Writer;
 use tables::put_tables;
-use text::input::{Report, print_tape};
+use text::input::{Report, print_report};
 use text::records::{Listing, put_records};
 use text::{put_field, put_numbers, put_refused, put_thread};
 
@@ -96,5 +96,5 @@ fn put_run<P: Print>(w: &mut Writer<'_, P>, bytes: &[u8])
 }
 
 fn main(rt: HostRuntime) {
-    print_tape::<Inspect, _>(&rt);
+    print_report::<Inspect, _>(&rt);
 }

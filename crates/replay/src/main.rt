@@ -10,7 +10,7 @@ ghost use Rattle.replay.specs.Replay.{answer_text, count_text, calls_text, repla
 use calls::call::Request;
 use kernel::Answer;
 use output::Writer;
-use text::input::{Report, print_tape};
+use text::input::{Report, print_report};
 use text::records::{Listing, put_records};
 use text::{put_field, put_refused, put_thread};
 
@@ -73,5 +73,5 @@ fn put_run<P: Print>(w: &mut Writer<'_, P>, bytes: &[u8])
 }
 
 fn main(rt: HostRuntime) {
-    print_tape::<Replay, _>(&rt);
+    print_report::<Replay, _>(&rt);
 }

@@ -88,7 +88,7 @@ fn reported<'a, L: Report<P>, P: Print>(out: P, buf: &'a mut [u8], bytes: &[u8])
 
 // Reads the tape that a program is given, and prints what the program prints of it. No clause speaks of what reaches the output, since std's
 // `Print` has none.
-pub fn print_tape<'r, L: Report<&'r R>, R: Files + Env + Input + Print + Eprint + Alloc>(
+pub fn print_report<'r, L: Report<&'r R>, R: Files + Env + Input + Print + Eprint + Alloc>(
     rt: &'r R,
 ) {
     let Some(mut source) = open(rt) else {
@@ -98,6 +98,25 @@ pub fn print_tape<'r, L: Report<&'r R>, R: Files + Env + Input + Print + Eprint 
     let n = source.read_full(&mut bytes);
     let mut buf = [0u8; BUFFER_BYTES];
     let mut w = reported::<L, &R>(rt, &mut buf, &bytes[..n]);
+    w.flush();
+}
+
+// Reads the tape that a program is given, and prints what `put` puts into a buffer of it. A closure may hold values of the program's own, which
+// a report cannot; it has to be one that can be called, and no clause says where its text begins.
+pub fn print_tape<
+    R: Files + Env + Input + Print + Eprint + Alloc,
+    F: FnOnce(&mut Writer<'_, &R>, &[u8]),
+>(rt: &R, put: F)
+    requires { F.IsAlwaysCallable put }
+{
+    let Some(mut source) = open(rt) else {
+        return;
+    };
+    let mut bytes = [0u8; MOST_BYTES];
+    let n = source.read_full(&mut bytes);
+    let mut buf = [0u8; BUFFER_BYTES];
+    let mut w = Writer::new(rt, &mut buf);
+    put(&mut w, &bytes[..n]);
     w.flush();
 }
 
@@ -149,3 +168,6 @@ fn fail<R: Eprint + Alloc>(rt: &R, what: &str, error: &Error) {
         }
     }
 }
+
+#[cfg(test)]
+mod tests;
