@@ -12,7 +12,7 @@ use kernel::{Answer, Kernel};
 use output::Writer;
 use tables::put_tables;
 use text::input::{Report, print_report};
-use text::records::{Listing, put_records};
+use text::records::{RecordReport, put_record_reports};
 use text::{put_field, put_numbers, put_refused, put_thread};
 
 mod tables;
@@ -28,7 +28,7 @@ impl<P: Print> Report<P> for Inspect {
     }
 }
 
-impl<P: Print> Listing<P> for Inspect {
+impl<P: Print> RecordReport<P> for Inspect {
     ghost listed_text = { record_text };
 
     fn put_record(w: &mut Writer<'_, P>, i: u32, r: &Request, a: &Answer) {
@@ -80,7 +80,7 @@ fn put_calls<P: Print>(w: &mut Writer<'_, P>, bytes: &[u8], messages: &[u32])
     ensures { Puts w.old (calls_text messages.now (records_of bytes.now)) w.new }
 {
     put_tables(w, &Kernel::start());
-    put_records::<Inspect, P>(w, bytes, messages);
+    put_record_reports::<Inspect, P>(w, bytes, messages);
 }
 
 // What is printed of a tape. It stands in `replay` and `inspect`, since one function of both would need more of `Report` for these lines.

@@ -11,7 +11,7 @@ use calls::call::Request;
 use kernel::Answer;
 use output::Writer;
 use text::input::{Report, print_report};
-use text::records::{Listing, put_records};
+use text::records::{RecordReport, put_record_reports};
 use text::{put_field, put_refused, put_thread};
 
 // The report and the listing that this program prints.
@@ -25,7 +25,7 @@ impl<P: Print> Report<P> for Replay {
     }
 }
 
-impl<P: Print> Listing<P> for Replay {
+impl<P: Print> RecordReport<P> for Replay {
     ghost listed_text = { λ i r a. answer_text a };
 
     fn put_record(w: &mut Writer<'_, P>, _: u32, _: &Request, a: &Answer) {
@@ -56,7 +56,7 @@ fn put_calls<P: Print>(w: &mut Writer<'_, P>, bytes: &[u8], messages: &[u32])
 {
     let n = tape::count(bytes);
     put_count(w, b"calls ", n);
-    put_records::<Replay, P>(w, bytes, messages);
+    put_record_reports::<Replay, P>(w, bytes, messages);
     put_count(w, b"done ", n);
 }
 

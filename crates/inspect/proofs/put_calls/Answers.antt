@@ -4,4 +4,4 @@ use Rattle.inspect.proofs.put_calls.Goals as goal
 
 pub returns : goal.returns
 unfolding calls_text
-returns g c = puts-append (rw c.start.ensures at c.put_tables.ensures) c.put_records.ensures
+returns g c = puts-append (rw c.start.ensures at c.put_tables.ensures) c.put_record_reports.ensures

@@ -10,4 +10,4 @@ unfolding calls_text
 returns g c =
     let bytes = c.args.bytes.now in
     let e : c.count-n.result ≡ length (records_of bytes) = c.count-n.ensures ∙ sym (length_records bytes) in
-    puts-append (puts-append (rw e at c.put_count.ensures) c.put_records.ensures) (rw e at c.put_count-2.ensures)
+    puts-append (puts-append (rw e at c.put_count.ensures) c.put_record_reports.ensures) (rw e at c.put_count-2.ensures)

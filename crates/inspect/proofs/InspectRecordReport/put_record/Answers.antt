@@ -1,6 +1,6 @@
 use Rattle.output.proofs.Laws.Texts.{puts-append}
 use Rattle.inspect.specs.Inspect.{record_text}
-use Rattle.inspect.proofs.InspectListing.put_record.Goals as goal
+use Rattle.inspect.proofs.InspectRecordReport.put_record.Goals as goal
 
 pub returns : goal.returns
 unfolding record_text
