@@ -17,7 +17,7 @@ use text::{put_field, put_numbers, put_refused, put_thread};
 
 mod tables;
 
-// The report and the listing that this program prints.
+// What this program prints of a tape and of a record.
 struct Inspect;
 
 impl<P: Print> Report<P> for Inspect {

@@ -14,7 +14,7 @@ use text::input::{Report, print_report};
 use text::records::{RecordReport, put_record_reports};
 use text::{put_field, put_refused, put_thread};
 
-// The report and the listing that this program prints.
+// What this program prints of a tape and of a record.
 struct Replay;
 
 impl<P: Print> Report<P> for Replay {

@@ -147,7 +147,7 @@ impl<'a> Alloc for InMemory<'a> {
     }
 }
 
-// The closure holds a byte of its own, which the bound of `Report` would not let it.
+// The closure holds a byte of the test's, which a report could not.
 #[test]
 fn prints_what_the_closure_puts(rt: HostRuntime) {
     let long = [b'x'; 65537];
