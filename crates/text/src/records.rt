@@ -39,16 +39,17 @@ pub fn put_record_reports<L: RecordReport<P>, P: Print>(
     }
 }
 
-// The same of a program that may go on with another buffer, so that nothing is said of whose the bytes are.
+// The same for a program that may go on with another buffer: the law speaks of the bytes that it leaves, and not of whose they are.
 pub trait Listing<P> {
     ghost listed_text: { ℕ → Request → Answer → List ℕ };
 
+    // Record i and its answer.
     fn put_record(w: &mut Writer<'_, P>, i: u32, r: &Request, a: &Answer)
         ensures { Put w.old.buf.now w.old.at (listed_text i r.now a.now) w.new.buf.now w.new.at };
 }
 
-// Every record of a tape, likewise. It has the lines of the function above, which cannot be called here, since a listing need not keep the
-// buffer.
+// Every record of a tape, likewise. Neither function can call the other: a listing need not keep the buffer, and who calls the first knows that it
+// was kept.
 pub fn put_records<L: Listing<P>, P: Print>(w: &mut Writer<'_, P>, bytes: &[u8], messages: &[u32])
     ensures { Put w.old.buf.now w.old.at (records_text L.listed_text 0 started messages.now (records_of bytes.now)) w.new.buf.now w.new.at }
 {
